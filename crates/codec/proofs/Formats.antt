@@ -1,0 +1,173 @@
+-- Each format is lawful, and formats put together from lawful ones are.
+-- Assumes nothing.
+use mathlib.Core.Path.{_≡_, refl, sym, ap, _∙_, subst, subst⁻¹}
+use mathlib.Core.Bool.{Bool, true, false, cond}
+use mathlib.Core.List.{List, [], _∷_, _++_, append-assoc, flatMap}
+use Prim.Native.Nat.{ℕ, zero, suc, _+_, _*_, _<_, _≤_}
+use native.Mathlib.Nat.{suc-mul, zero-mul, add-comm, mod-eq-of-lt}
+use native.Mathlib.Omega.{arith}
+use lib.ListN.{length, take, drop, length-append}
+use lib.Seq.{take-add, drop-drop}
+use lib.Dec.{leb, eqb}
+use lib.IntN.{pos, natAbs}
+use lib.Signed.{pos-natAbs}
+use borrow.Author.Tests.{leb-true}
+use mir.Val.{boolByte}
+use Rattle.base.proofs.Bools.{and-left, and-right}
+use Rattle.codec.specs.Format.{numAt, Format, num, flag, natural, _⊗_, encs, decs, allValid, AllHold, times, via}
+use Rattle.codec.specs.Lawful.{Bytes, Lawful}
+use Rattle.codec.proofs.Numbers.{length-be, numAt-be, be-numAt, numAt-lt}
+
+pub num-lawful : (w : ℕ) → Lawful (num w)
+num-lawful w = record {
+  length-enc = λ v h. length-be w v;
+  read-written = λ v h p r. numAt-be w v p r ∙ mod-eq-of-lt h;
+  valid-written = λ v h p r. refl;
+  write-read = λ s at b f h. be-numAt w s at b h;
+  held-read = λ s at b f. numAt-lt w s at b;
+}
+
+pub natural-lawful : (w : ℕ) → Lawful (natural w)
+natural-lawful w = record {
+  length-enc = λ z h. length-be w (natAbs z);
+  read-written = λ z h p r. ap pos (num-lawful w .read-written (natAbs z) (h .1) p r) ∙ pos-natAbs z (h .0);
+  valid-written = λ z h p r. refl;
+  write-read = λ s at b f h. be-numAt w s at b h;
+  held-read = λ s at b f. (tt, numAt-lt w s at b);
+}
+
+byte-of-flag : (n : ℕ) → leb n 1 ≡ true → cond (eqb n 1) 1 0 ≡ n
+byte-of-flag zero e = refl
+byte-of-flag (suc zero) e = refl
+byte-of-flag (suc (suc n)) e = absurd (omega (arith, leb-true (suc (suc n)) 1 e))
+
+flag-of-byte : (b : Bool) → eqb (cond b 1 0) 1 ≡ b
+flag-of-byte true = refl
+flag-of-byte false = refl
+
+flag-valid : (b : Bool) → leb (cond b 1 0) 1 ≡ true
+flag-valid true = refl
+flag-valid false = refl
+
+flag-lt : (b : Bool) → cond b 1 0 < 256
+flag-lt true = omega arith
+flag-lt false = omega arith
+
+-- what the code makes of a truth value by `as u8`
+pub byte-of-bool : (b : Bool) → boolByte b ≡ cond b 1 0
+byte-of-bool true = refl
+byte-of-bool false = refl
+
+pub flag-lawful : Lawful flag
+flag-lawful = record {
+  length-enc = λ b h. length-be 1 (cond b 1 0);
+  read-written = λ b h p r. rw (num-lawful 1 .read-written (cond b 1 0) (flag-lt b) p r) (flag-of-byte b);
+  valid-written = λ b h p r. rw (num-lawful 1 .read-written (cond b 1 0) (flag-lt b) p r) (flag-valid b);
+  write-read = λ s at y f h. rw (byte-of-flag (numAt 1 s at) f) (be-numAt 1 s at y h);
+  held-read = λ s at y f. tt;
+}
+
+-- x and then y were written behind p: a read at x sees y as what follows, and a read behind x sees x as what went before
+at-first : {B : Type 0} (f : List ℕ → ℕ → B) (p x y r : List ℕ) → f (p ++ ((x ++ y) ++ r)) (length p) ≡ f (p ++ (x ++ (y ++ r))) (length p)
+at-first f p x y r = ap (λ (l : List ℕ). f (p ++ l) (length p)) (append-assoc x y r)
+
+at-second : {B : Type 0} (f : List ℕ → ℕ → B) (p x y r : List ℕ) {w : ℕ} → length x ≡ w
+    → f (p ++ ((x ++ y) ++ r)) (length p + w) ≡ f ((p ++ x) ++ (y ++ r)) (length (p ++ x))
+at-second f p x y r e = rw (append-assoc x y r, ← append-assoc p x (y ++ r), ← e, ← length-append p x)
+
+pub pair-lawful : {A B : Type 0} {F : Format A} {G : Format B} → Lawful F → Lawful G → Lawful (F ⊗ G)
+pair-lawful {F = F} {G = G} LF LG = record {
+  length-enc = λ v h. length-append (F .enc (v .0)) (G .enc (v .1)) ∙ rw (LF .length-enc (v .0) (h .0), LG .length-enc (v .1) (h .1));
+  read-written = λ v h p r.
+      let x = F .enc (v .0) in
+      let y = G .enc (v .1) in
+      let one = at-first (F .dec) p x y r ∙ LF .read-written (v .0) (h .0) p (y ++ r) in
+      let two = at-second (G .dec) p x y r (LF .length-enc (v .0) (h .0)) ∙ LG .read-written (v .1) (h .1) (p ++ x) r in
+      rw (one, two);
+  valid-written = λ v h p r.
+      let x = F .enc (v .0) in
+      let y = G .enc (v .1) in
+      let one = at-first (F .valid) p x y r ∙ LF .valid-written (v .0) (h .0) p (y ++ r) in
+      let two = at-second (G .valid) p x y r (LF .length-enc (v .0) (h .0)) ∙ LG .valid-written (v .1) (h .1) (p ++ x) r in
+      rw (one, two);
+  write-read = λ s at b f h.
+      let one = and-left (F .valid s at) (G .valid s (at + F .width)) f in
+      let two = and-right (F .valid s at) (G .valid s (at + F .width)) f in
+      rw (LF .write-read s at b one (omega arith), LG .write-read s (at + F .width) b two (omega arith), ← drop-drop (F .width) at s)
+      (sym (take-add (F .width) (G .width) (drop at s)));
+  held-read = λ s at b f. (
+    LF .held-read s at b (and-left (F .valid s at) (G .valid s (at + F .width)) f),
+    LG .held-read s (at + F .width) b (and-right (F .valid s at) (G .valid s (at + F .width)) f),
+  );
+}
+
+module _ {A : Type 0} {F : Format A} (LF : Lawful F) where
+  pub length-encs : (l : List A) → AllHold F l → length (encs F l) ≡ length l * F .width
+  unfolding flatMap
+  length-encs [] h = sym (zero-mul (F .width))
+  length-encs (a ∷ l) h =
+      length-append (F .enc a) (encs F l)
+      ∙ rw (LF .length-enc a (h .0), length-encs l (h .1), suc-mul) (omega arith)
+
+  decs-encs : (l : List A) → AllHold F l → (p r : List ℕ) → decs F (length l) (p ++ (encs F l ++ r)) (length p) ≡ l
+  unfolding flatMap
+  decs-encs [] h p r = refl
+  decs-encs (a ∷ l) h p r =
+      let x = F .enc a in
+      let y = encs F l in
+      let one = at-first (F .dec) p x y r ∙ LF .read-written a (h .0) p (y ++ r) in
+      let two = at-second (decs F (length l)) p x y r (LF .length-enc a (h .0)) ∙ decs-encs l (h .1) (p ++ x) r in
+      rw (one, two)
+
+  encs-valid : (l : List A) → AllHold F l → (p r : List ℕ) → allValid F (length l) (p ++ (encs F l ++ r)) (length p) ≡ true
+  unfolding flatMap
+  encs-valid [] h p r = refl
+  encs-valid (a ∷ l) h p r =
+      let x = F .enc a in
+      let y = encs F l in
+      let one = at-first (F .valid) p x y r ∙ LF .valid-written a (h .0) p (y ++ r) in
+      let two = at-second (allValid F (length l)) p x y r (LF .length-enc a (h .0)) ∙ encs-valid l (h .1) (p ++ x) r in
+      rw (one, two)
+
+  encs-decs : (n : ℕ) (s : List ℕ) (at : ℕ) → Bytes s → allValid F n s at ≡ true → at + n * F .width ≤ length s
+      → encs F (decs F n s at) ≡ take (n * F .width) (drop at s)
+  unfolding flatMap
+  encs-decs zero s at b f h = rw zero-mul
+  encs-decs (suc n) s at b f h =
+      let one = and-left (F .valid s at) (allValid F n s (at + F .width)) f in
+      let two = and-right (F .valid s at) (allValid F n s (at + F .width)) f in
+      let room : at + (F .width + n * F .width) ≤ length s = omega (arith, suc-mul n (F .width), h) in
+      rw (
+        LF .write-read s at b one (omega arith),
+        encs-decs n s (at + F .width) b two (omega arith),
+        ← drop-drop (F .width) at s,
+        suc-mul,
+        add-comm (n * F .width) (F .width),
+      )
+      (sym (take-add (F .width) (n * F .width) (drop at s)))
+
+  decs-held : (n : ℕ) (s : List ℕ) (at : ℕ) → Bytes s → allValid F n s at ≡ true → times n F .Holds (decs F n s at)
+  decs-held zero s at b f = (refl, tt)
+  decs-held (suc n) s at b f =
+      let one = and-left (F .valid s at) (allValid F n s (at + F .width)) f in
+      let rest = decs-held n s (at + F .width) b (and-right (F .valid s at) (allValid F n s (at + F .width)) f) in
+      (ap suc (rest .0), (LF .held-read s at b one, rest .1))
+
+  pub times-lawful : (n : ℕ) → Lawful (times n F)
+  times-lawful n = record {
+    length-enc = λ l h. length-encs l (h .1) ∙ ap (λ (k : ℕ). k * F .width) (h .0);
+    read-written = λ l h p r. subst (λ (k : ℕ). decs F k (p ++ (encs F l ++ r)) (length p) ≡ l) (h .0) (decs-encs l (h .1) p r);
+    valid-written = λ l h p r. subst (λ (k : ℕ). allValid F k (p ++ (encs F l ++ r)) (length p) ≡ true) (h .0) (encs-valid l (h .1) p r);
+    write-read = encs-decs n;
+    held-read = decs-held n;
+  }
+
+pub via-lawful : {A B : Type 0} {F : Format A} (to : B → A) (from : A → B) → ((b : B) → from (to b) ≡ b) → ((a : A) → to (from a) ≡ a)
+    → Lawful F → Lawful (via F to from)
+via-lawful {F = F} to from back forth LF = record {
+  length-enc = λ b h. LF .length-enc (to b) h;
+  read-written = λ b h p r. ap from (LF .read-written (to b) h p r) ∙ back b;
+  valid-written = λ b h p r. LF .valid-written (to b) h p r;
+  write-read = λ s at y f h. ap (F .enc) (forth (F .dec s at)) ∙ LF .write-read s at y f h;
+  held-read = λ s at y f. subst⁻¹ (F .Holds) (forth (F .dec s at)) (LF .held-read s at y f);
+}

@@ -1,0 +1,4 @@
+pub mod Numbers
+pub mod Formats
+pub mod Stores
+pub mod Examples

@@ -1,0 +1,77 @@
+-- Stores that follow each other, and loops that write or read one value more at each turn.
+-- Assumes nothing.
+use mathlib.Core.Path.{_≡_, sym, ap, _∙_}
+use mathlib.Core.List.{List, [], _∷_, _++_, append-assoc, append-nil, flatMap}
+use Prim.Native.Nat.{ℕ, zero, suc, _+_, _*_, _/_, _%_, _^_, _<_, _≤_}
+use native.Mathlib.Nat.{add-suc, suc-add, add-zero, suc-mul, zero-mul}
+use native.Mathlib.Numerals.{add-one}
+use native.Mathlib.Omega.{arith}
+use lib.ListN.{set, length, getD, take, drop, length-append, length-drop}
+use lib.Seq.{sets, sets-eq, length-take-le, take-all, take-append-seam, drop-append-add, take-suc-set, drop-drop}
+use Rattle.codec.specs.Format.{be, Format, encs, decs, AllHold}
+use Rattle.codec.specs.Lawful.{Lawful}
+use Rattle.codec.proofs.Numbers.{length-be, be-halves}
+use Rattle.codec.proofs.Formats.{length-encs}
+
+-- ---- stores
+
+-- a store that goes on where the one before it ended
+pub sets-cat : (l : List ℕ) (i : ℕ) (xs ys : List ℕ) → sets l i (xs ++ ys) ≡ sets (sets l i xs) (i + length xs) ys
+sets-cat l i [] ys = rw add-zero
+sets-cat l i (x ∷ xs) ys = rw (add-suc, ← suc-add) (sets-cat (set l i x) (suc i) xs ys)
+
+pub sets-then : (l : List ℕ) (i : ℕ) (xs ys : List ℕ) (j : ℕ) → j ≡ i + length xs → sets (sets l i xs) j ys ≡ sets l i (xs ++ ys)
+sets-then l i xs ys j e = rw e (sym (sets-cat l i xs ys))
+
+-- a number of w + k bytes is stored by its higher and its lower half
+pub sets-halves : (w k v : ℕ) (l : List ℕ) (at : ℕ) → sets (sets l at (be w (v / 256 ^ k))) (at + w) (be k (v % 256 ^ k)) ≡ sets l at (be (w + k) v)
+sets-halves w k v l at =
+    sets-then l at (be w (v / 256 ^ k)) (be k (v % 256 ^ k)) (at + w) (rw length-be) ∙ rw (be-halves w k v)
+
+-- x stored behind p, which took the place of the first elements of o
+pub over : (p x o : List ℕ) → length p + length x ≤ length o → sets (p ++ drop (length p) o) (length p) x ≡ (p ++ x) ++ drop (length p + length x) o
+over p x o h =
+    let room : length p + length x ≤ length (p ++ drop (length p) o) = simp (length-append, length-drop) (omega arith) in
+    sets-eq x (p ++ drop (length p) o) (length p) room
+    ∙ rw (take-append-seam p (drop (length p) o), drop-append-add p (drop (length p) o) (length x), drop-drop (length x) (length p) o)
+
+-- ---- loops
+
+module _ {A : Type 0} (F : Format A) where
+  holds-take : (l : List A) → AllHold F l → (j : ℕ) → AllHold F (take j l)
+  holds-take l h zero = tt
+  holds-take [] h (suc j) = tt
+  holds-take (a ∷ l) h (suc j) = (h .0, holds-take l (h .1) j)
+
+  encs-snoc : (l : List A) (j : ℕ) (d : A) → j < length l → encs F (take (suc j) l) ≡ encs F (take j l) ++ F .enc (getD l j d)
+  unfolding flatMap
+  encs-snoc [] j d lt = absurd (omega arith)
+  encs-snoc (a ∷ l) zero d lt = append-nil (F .enc a)
+  encs-snoc (a ∷ l) (suc j) d lt = rw (encs-snoc l j d (omega arith), append-assoc)
+
+  decs-snoc : (n : ℕ) (s : List ℕ) (at : ℕ) → decs F (suc n) s at ≡ decs F n s at ++ (F .dec s (at + n * F .width) ∷ [])
+  decs-snoc zero s at = rw (zero-mul, add-zero)
+  decs-snoc (suc n) s at =
+      let e : at + F .width + n * F .width ≡ at + suc n * F .width = rw suc-mul (omega arith) in
+      ap (λ (l : List A). F .dec s at ∷ l) (decs-snoc n s (at + F .width) ∙ rw e)
+
+  -- a turn of a loop that reads: j values are read, and the next is set behind them
+  pub get-more : (l : List A) (j : ℕ) (s : List ℕ) (at : ℕ) → j < length l → take j l ≡ decs F j s at
+      → take (j + 1) (set l j (F .dec s (at + j * F .width))) ≡ decs F (j + 1) s at
+  get-more l j s at lt e = rw (add-one j, take-suc-set l j (F .dec s (at + j * F .width)) lt, e) (sym (decs-snoc j s at))
+
+  -- the end of such a loop: every value is read
+  pub get-all : (l : List A) (n j : ℕ) (s : List ℕ) (at : ℕ) → j ≤ n → n ≤ j → length l ≡ n → take j l ≡ decs F j s at
+      → l ≡ decs F n s at
+  get-all l n j s at a b len e =
+      let same : j ≡ n = omega arith in
+      sym (take-all j l (omega arith)) ∙ e ∙ ap (λ (k : ℕ). decs F k s at) same
+
+-- a turn of a loop that writes: j values stand, and the next is put behind them
+pub put-more : {A : Type 0} {F : Format A} → Lawful F → (l : List A) → AllHold F l → (j : ℕ) (d : A) → j < length l → (o : List ℕ) (at : ℕ)
+    → sets (sets o at (encs F (take j l))) (at + j * F .width) (F .enc (getD l j d)) ≡ sets o at (encs F (take (j + 1) l))
+put-more {F = F} LF l h j d lt o at =
+    let written = encs F (take j l) in
+    let count = length-take-le j l (omega arith) in
+    let n : length written ≡ j * F .width = length-encs LF (take j l) (holds-take F l h j) ∙ ap (λ (k : ℕ). k * F .width) count in
+    rw (add-one j, encs-snoc F l j d lt) (sets-then o at written (F .enc (getD l j d)) (at + j * F .width) (rw n))
