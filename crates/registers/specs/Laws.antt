@@ -1,0 +1,18 @@
+-- What each call does to each of a register's 32 bits.
+use mathlib.Core.Path.{_≡_}
+use mathlib.Core.Bool.{not, _&&_, _||_}
+use Prim.Native.Nat.{ℕ, _^_, _<_}
+use Rattle.base.specs.Bits.{bit}
+use Rattle.registers.specs.declared.Register.{Register}
+use Rattle.registers.specs.Register.{raised, cleared, withFilter}
+
+pub record Laws (r : Register) (n : ℕ) : Type 0 where
+  -- a bit is set by an event that has it, unless the filter hides it at that moment
+  pub raised-bit : (k : ℕ) → k < 32 → bit (raised r n .bits) k ≡ (bit (r .bits) k || (bit n k && not (bit (r .filter) k)))
+  -- 'ones clear'
+  pub cleared-bit : (k : ℕ) → k < 32 → bit (cleared r n .bits) k ≡ (bit (r .bits) k && not (bit n k))
+  -- 'A later filter neither sets nor clears'
+  pub filter-bit : (k : ℕ) → bit (withFilter r n .bits) k ≡ bit (r .bits) k
+  -- the results are numbers of 32 bits
+  pub raised-lt : raised r n .bits < 2 ^ 32
+  pub cleared-lt : cleared r n .bits < 2 ^ 32
