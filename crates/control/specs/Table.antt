@@ -1,0 +1,39 @@
+-- The switch table of document 01, as data.
+use Prim.Native.Nat.{ℕ}
+use mathlib.Core.List.{List, [], _∷_}
+use Rattle.control.specs.declared.Request.{Request}
+use Rattle.control.specs.declared.Request.the-variants.{RemoteDisconnect, RemoteReconnect, ManualDisconnect, ManualReconnect, LocalDisconnect, LocalReconnect}
+
+-- the letters of the moves
+pub data Letter : Type 0 where
+  a b c d e f g h : Letter
+
+-- a row: 'Move | Modes | From → to | Line in log 3'
+pub record Row : Type 0 where
+  pub letter : Letter
+  pub request : Request
+  pub modes : List ℕ
+  pub from : ℕ
+  pub to : ℕ
+  pub code : ℕ
+
+-- a row by its columns
+abbrev pub row : Letter → Request → List ℕ → ℕ → ℕ → ℕ → Row
+row x q ms s t n = record { letter = x; request = q; modes = ms; from = s; to = t; code = n }
+
+-- '1–6'
+abbrev pub oneToSix : List ℕ
+oneToSix = 1 ∷ 2 ∷ 3 ∷ 4 ∷ 5 ∷ 6 ∷ []
+
+-- the rows in document 01's order; 'b, c' is b from state 1 and c from state 2
+unfoldable pub switchTable : List Row
+switchTable =
+    row a RemoteReconnect (2 ∷ 4 ∷ []) 0 1 63
+    ∷ row d RemoteReconnect (1 ∷ 3 ∷ 5 ∷ 6 ∷ []) 0 2 59
+    ∷ row b RemoteDisconnect oneToSix 1 0 62
+    ∷ row c RemoteDisconnect oneToSix 2 0 62
+    ∷ row e ManualReconnect oneToSix 2 1 61
+    ∷ row f ManualDisconnect (1 ∷ 2 ∷ 5 ∷ []) 1 2 60
+    ∷ row g LocalDisconnect oneToSix 1 2 64
+    ∷ row h LocalReconnect (5 ∷ 6 ∷ []) 2 1 69
+    ∷ []
