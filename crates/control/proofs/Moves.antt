@@ -57,11 +57,11 @@ table-move q m s t n o e =
     go true k = refl
     go false k = cc (k refl)
 
--- a move of the table leaves a sound control
-pub moved-sound : (c : Control) (q : Request) (t n : ℕ) (o : Bool) → decision switchTable q (c .mode) (c .state) ≡ Move t n o → soundControl (movedTo c t o) ≡ true
+-- a control whose state is where a move of the table goes in its mode is sound, whatever its openings
+pub moved-sound : (c : Control) (q : Request) (s n : ℕ) (o : Bool) → decision switchTable q (c .mode) s ≡ Move (c .state) n o → soundControl c ≡ true
 unfolding soundControl
-moved-sound c q t n o e =
-    let h = table-move q (c .mode) (c .state) t n o e in
+moved-sound c q s n o e =
+    let h = table-move q (c .mode) s (c .state) n o e in
     let low = leb-true 1 (c .mode) (and-left (leb 1 (c .mode)) (leb (c .mode) 6) (h .mode)) in
     let high = and-right (leb 1 (c .mode)) (leb (c .mode) 6) (h .mode) in
     rw (high, h .state, ne-eqb (c .mode) 0 (λ z. omega arith))
@@ -79,10 +79,10 @@ not-and true true e = refl
 not-and true false e = cc
 not-and false b e = refl
 
--- accepting a mode: it connects the switch, or leaves it
-pub mode-moved-sound : (c : Control) (m t n : ℕ) (o : Bool) → leb m 6 ≡ true → modeDecision m (c .state) ≡ Move t n o → soundControl (movedTo (inMode c m) t o) ≡ true
+-- accepting a mode: a control whose state is where that moves the switch is sound, whatever its openings; and so is one that it leaves
+pub mode-moved-sound : (c : Control) (s n : ℕ) (o : Bool) → leb (c .mode) 6 ≡ true → modeDecision (c .mode) s ≡ Move (c .state) n o → soundControl c ≡ true
 unfolding soundControl modeDecision
-mode-moved-sound c m t n o h e = simp (h, moves-to (eqb m 0 && not (eqb (c .state) 1)) _ _ t n _ o e, or-true)
+mode-moved-sound c s n o h e = simp (h, moves-to (eqb (c .mode) 0 && not (eqb s 1)) _ _ (c .state) n _ o e, or-true)
 
 pub mode-stays-sound : (c : Control) (m : ℕ) → soundControl c ≡ true → leb m 6 ≡ true → modeDecision m (c .state) ≡ Stay → soundControl (inMode c m) ≡ true
 unfolding soundControl modeDecision
