@@ -1,0 +1,92 @@
+-- The fifteen calls of document 01: 'A call is one of fifteen kinds with its numbers'.
+use mathlib.Core.Path.{_≡_}
+use Prim.Native.Nat.{ℕ, _-_, _≤_}
+use mathlib.Core.Bool.{true, cond}
+use mathlib.Core.List.{List, [], _∷_}
+use lib.Dec.{eqb, ltb}
+use lib.IntN.{ℤ, pos, negsuc}
+use lib.Signed.{leZ}
+use Rattle.calls.specs.declared.Call.{Call}
+use Rattle.calls.specs.declared.Call.the-variants.{Sample, RemoteDisconnect, RemoteReconnect, ManualDisconnect, ManualReconnect, SetMode, SetLimiter, SetClock, Event, SetAlarmFilter, SetErrorFilter, ClearAlarms, ClearErrors, ClearLog, Script}
+use Rattle.calls.specs.declared.Answer.{Answer}
+use Rattle.calls.specs.declared.Answer.the-variants.{Accepted, Refused}
+use Rattle.calls.specs.declared.Parsed.{Parsed}
+use Rattle.calls.specs.declared.Parsed.the-variants.{Ok, NoKind}
+
+-- an answer's number: 'refusal or 0'
+abbrev pub answerNumber : Answer → ℕ
+answerNumber Accepted = 0
+answerNumber (Refused n) = n
+
+-- the number of a call's kind in document 01's list
+abbrev pub kindOf : Call → ℕ
+kindOf (Sample p) = 1
+kindOf RemoteDisconnect = 2
+kindOf RemoteReconnect = 3
+kindOf ManualDisconnect = 4
+kindOf ManualReconnect = 5
+kindOf (SetMode n) = 6
+kindOf (SetLimiter t o u) = 7
+kindOf (SetClock n) = 8
+kindOf (Event c) = 9
+kindOf (SetAlarmFilter n) = 10
+kindOf (SetErrorFilter n) = 11
+kindOf (ClearAlarms n) = 12
+kindOf (ClearErrors n) = 13
+kindOf (ClearLog n) = 14
+kindOf (Script n) = 15
+
+-- 'a sample or threshold is two's complement'
+abbrev pub signedOf : ℕ → ℤ
+signedOf n = cond (ltb n 2147483648) (pos n) (negsuc (4294967295 - n))
+
+-- the call of a kind and five numbers, 'unused ones ignored'; 13 is the refusal of a kind that is not 1–15
+unfoldable pub callOf : ℕ → ℕ → ℕ → ℕ → ℕ → ℕ → Parsed
+callOf k n1 n2 n3 n4 n5 =
+    cond (eqb k 1) (Ok (Sample (signedOf n1)))
+    (cond (eqb k 2) (Ok RemoteDisconnect)
+    (cond (eqb k 3) (Ok RemoteReconnect)
+    (cond (eqb k 4) (Ok ManualDisconnect)
+    (cond (eqb k 5) (Ok ManualReconnect)
+    (cond (eqb k 6) (Ok (SetMode n1))
+    (cond (eqb k 7) (Ok (SetLimiter (signedOf n1) n2 n3))
+    (cond (eqb k 8) (Ok (SetClock n1))
+    (cond (eqb k 9) (Ok (Event n1))
+    (cond (eqb k 10) (Ok (SetAlarmFilter n1))
+    (cond (eqb k 11) (Ok (SetErrorFilter n1))
+    (cond (eqb k 12) (Ok (ClearAlarms n1))
+    (cond (eqb k 13) (Ok (ClearErrors n1))
+    (cond (eqb k 14) (Ok (ClearLog n1))
+    (cond (eqb k 15) (Ok (Script n1))
+    NoKind))))))))))))))
+
+-- a number of 32 bits
+abbrev pub Word : ℕ → Type 0
+Word n = n ≤ 4294967295
+
+-- a signed number of 32 bits
+abbrev pub Signed : ℤ → Type 0
+Signed z = (leZ (negsuc 2147483647) z ≡ true) × (leZ z (pos 2147483647) ≡ true)
+
+-- the numbers of a call are values of their types
+abbrev pub InRange : Call → Type 0
+InRange (Sample p) = Signed p
+InRange RemoteDisconnect = Unit
+InRange RemoteReconnect = Unit
+InRange ManualDisconnect = Unit
+InRange ManualReconnect = Unit
+InRange (SetMode n) = Word n
+InRange (SetLimiter t o u) = Signed t × (Word o × Word u)
+InRange (SetClock n) = Word n
+InRange (Event c) = Word c
+InRange (SetAlarmFilter n) = Word n
+InRange (SetErrorFilter n) = Word n
+InRange (ClearAlarms n) = Word n
+InRange (ClearErrors n) = Word n
+InRange (ClearLog n) = Word n
+InRange (Script n) = Word n
+
+-- of each call of a list
+abbrev pub AllInRange : List Call → Type 0
+AllInRange [] = Unit
+AllInRange (c ∷ cs) = InRange c × AllInRange cs

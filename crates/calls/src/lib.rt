@@ -1,0 +1,74 @@
+// The calls that a meter takes, its answers, and the reading of a command: a kind and five numbers.
+ghost use mathlib.Core.Path.{_≡_};
+ghost use Rattle.calls.specs.Calls.{signedOf, callOf};
+
+// A call with its numbers, which stay 32 bits wide until they are judged.
+pub enum Call {
+    // Power in watts; export is negative.
+    Sample(i32),
+    RemoteDisconnect,
+    RemoteReconnect,
+    ManualDisconnect,
+    ManualReconnect,
+    SetMode(u32),
+    // Threshold in watts, over and under duration in samples.
+    SetLimiter(i32, u32, u32),
+    SetClock(u32),
+    // The event's code.
+    Event(u32),
+    SetAlarmFilter(u32),
+    SetErrorFilter(u32),
+    // The bits to clear.
+    ClearAlarms(u32),
+    ClearErrors(u32),
+    // The log's number.
+    ClearLog(u32),
+    // The script's number.
+    Script(u32),
+}
+
+pub enum Answer {
+    Accepted,
+    // The number of the refusal.
+    Refused(u8),
+}
+
+// What a kind and its numbers name.
+pub enum Parsed {
+    Ok(Call),
+    NoKind,
+}
+
+// A number of 32 bits as two's complement.
+pub fn signed(n: u32) -> i32
+    ensures { λ r. ⌜ r ≡ signedOf n ⌝ }
+{
+    if n < 2147483648 {
+        return n as i32;
+    }
+    !((4294967295 - n) as i32)
+}
+
+// All five numbers of a command are taken; a kind ignores those that it has no use for.
+pub fn read_kind(kind: u32, n1: u32, n2: u32, n3: u32, n4: u32, n5: u32) -> Parsed
+    ensures { λ r. ⌜ r ≡ callOf kind n1 n2 n3 n4 n5 ⌝ }
+{
+    match kind {
+        1 => Parsed::Ok(Call::Sample(signed(n1))),
+        2 => Parsed::Ok(Call::RemoteDisconnect),
+        3 => Parsed::Ok(Call::RemoteReconnect),
+        4 => Parsed::Ok(Call::ManualDisconnect),
+        5 => Parsed::Ok(Call::ManualReconnect),
+        6 => Parsed::Ok(Call::SetMode(n1)),
+        7 => Parsed::Ok(Call::SetLimiter(signed(n1), n2, n3)),
+        8 => Parsed::Ok(Call::SetClock(n1)),
+        9 => Parsed::Ok(Call::Event(n1)),
+        10 => Parsed::Ok(Call::SetAlarmFilter(n1)),
+        11 => Parsed::Ok(Call::SetErrorFilter(n1)),
+        12 => Parsed::Ok(Call::ClearAlarms(n1)),
+        13 => Parsed::Ok(Call::ClearErrors(n1)),
+        14 => Parsed::Ok(Call::ClearLog(n1)),
+        15 => Parsed::Ok(Call::Script(n1)),
+        _ => Parsed::NoKind,
+    }
+}
