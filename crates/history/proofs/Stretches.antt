@@ -1,0 +1,177 @@
+-- Full stretches, Exceeded and Run as splits of what the limiter saw, both ways.
+-- Assumes nothing.
+use Prim.Native.Nat.{ℕ, zero, suc}
+use mathlib.Core.Path.{_≡_, refl, sym, ap, ap₂, subst, _∙_}
+use mathlib.Core.Bool.{Bool, true, false, not, _&&_, cond, Bool·beq, false≢true, and-false}
+use mathlib.Core.List.{List, [], _∷_, _++_, map, map-append, append-assoc, append-nil}
+use mathlib.Core.Logic.{_↔_, _≢_}
+use mathlib.Core.Option.{some}
+use lib.Dec.{leb, leb·zero, leb·suc-zero, leb·suc-suc}
+use lib.IntN.{ℤ}
+use lib.ListN.{length, take, drop, replicate}
+use Rattle.history.specs.Effects.{Fresh, Effect, sampled, requested, modeSet, limitsSet, clockSet, occurred, filterSet, bitsCleared, logCleared}
+use Rattle.history.specs.Last.{History, otherwise, last, limitsOf}
+use Rattle.history.specs.Switch.{given}
+use Rattle.history.specs.Limiter.{Observation, setting, judged, observations, durationOf, duration, sinceSetting, allAre, stretchEnds, exceeded, exceededOf, trailing, runOf}
+use Rattle.history.specs.Splits.{LatestElse, InForce, FullStretch, stretchAt, Trailing, all, broken}
+use Rattle.history.proofs.Lists.{latest-split}
+
+-- 'Other calls between don't break it': the limiter sees settings and samples alone
+pub others-unseen : (f : Fresh) (e : Effect) (h : History) → ((p : ℤ) → e ≢ sampled p) → ((t : ℤ) (o u : ℕ) → e ≢ limitsSet t o u) → observations f (e ∷ h) ≡ observations f h
+unfolding observations
+others-unseen f (sampled p) h s l = absurd (s p refl)
+others-unseen f (requested q) h s l = refl
+others-unseen f (modeSet n) h s l = refl
+others-unseen f (limitsSet t o u) h s l = absurd (l t o u refl)
+others-unseen f (clockSet n) h s l = refl
+others-unseen f (occurred r) h s l = refl
+others-unseen f (filterSet r n) h s l = refl
+others-unseen f (bitsCleared r n) h s l = refl
+others-unseen f (logCleared n) h s l = refl
+
+sample-more : (c : Bool) {os : List Observation} → InForce os → InForce (judged c ∷ os)
+sample-more c i = record { samples = c ∷ i .samples; over = i .over; under = i .under; before = i .before; split = ap (λ (os : List Observation). judged c ∷ os) (i .split) }
+
+-- 'A limiter setting is fresh or an accepted call 7': there is always one
+pub in-force : (f : Fresh) (h : History) → InForce (observations f h)
+unfolding observations
+in-force f [] = record { samples = []; over = f .over; under = f .under; before = []; split = refl }
+in-force f (sampled p ∷ h) = sample-more _ (in-force f h)
+in-force f (requested q ∷ h) = in-force f h
+in-force f (modeSet n ∷ h) = in-force f h
+in-force f (limitsSet t o u ∷ h) = record { samples = []; over = o; under = u; before = observations f h; split = refl }
+in-force f (clockSet n ∷ h) = in-force f h
+in-force f (occurred r ∷ h) = in-force f h
+in-force f (filterSet s n ∷ h) = in-force f h
+in-force f (bitsCleared s n ∷ h) = in-force f h
+in-force f (logCleared n ∷ h) = in-force f h
+
+since-is : (xs : List Bool) (o u : ℕ) (os : List Observation) → sinceSetting (map judged xs ++ (setting o u ∷ os)) ≡ xs
+unfolding sinceSetting
+since-is [] o u os = refl
+since-is (x ∷ xs) o u os = ap (λ (ys : List Bool). x ∷ ys) (since-is xs o u os)
+
+duration-is : (b : Bool) (xs : List Bool) (o u : ℕ) (os : List Observation) → duration b (map judged xs ++ (setting o u ∷ os)) ≡ durationOf b o u
+unfolding duration
+duration-is b [] o u os = refl
+duration-is b (x ∷ xs) o u os = duration-is b xs o u os
+
+-- the durations in force are those last accepted, else fresh
+durations-last : (f : Fresh) (h : History) (b : Bool) → duration b (observations f h) ≡ durationOf b (limitsOf f h .over) (limitsOf f h .under)
+unfolding observations duration last
+durations-last f [] b = refl
+durations-last f (sampled p ∷ h) b = durations-last f h b
+durations-last f (requested q ∷ h) b = durations-last f h b
+durations-last f (modeSet n ∷ h) b = durations-last f h b
+durations-last f (limitsSet t o u ∷ h) b = refl
+durations-last f (clockSet n ∷ h) b = durations-last f h b
+durations-last f (occurred r ∷ h) b = durations-last f h b
+durations-last f (filterSet s n ∷ h) b = durations-last f h b
+durations-last f (bitsCleared s n ∷ h) b = durations-last f h b
+durations-last f (logCleared n ∷ h) b = durations-last f h b
+
+pub in-force-limits : (f : Fresh) (h : History) (i : InForce (observations f h)) → (i .over ≡ limitsOf f h .over) × (i .under ≡ limitsOf f h .under)
+in-force-limits f h i = (same-duration true, same-duration false)
+  where
+    same-duration : (b : Bool) → durationOf b (i .over) (i .under) ≡ durationOf b (limitsOf f h .over) (limitsOf f h .under)
+    same-duration b = sym (duration-is b (i .samples) (i .over) (i .under) (i .before)) ∙ ap (duration b) (sym (i .split)) ∙ durations-last f h b
+
+-- the first d are there and all b
+abbrev allFirst : Bool → ℕ → List Bool → Bool
+allFirst b d xs = leb d (length xs) && allAre b (take d xs)
+
+same : (b : Bool) → Bool·beq b b ≡ true
+same true = refl
+same false = refl
+
+first-all : (b : Bool) (d : ℕ) (xs : List Bool) → allFirst b d xs ≡ true → xs ≡ replicate d b ++ drop d xs
+unfolding allAre
+first-all b zero xs q = refl
+first-all b (suc d) [] q = absurd (false≢true (rw (leb·suc-zero d) at q))
+first-all true (suc d) (true ∷ xs) q = ap (λ (ys : List Bool). true ∷ ys) (first-all true d xs (rw (leb·suc-suc d (length xs)) at q))
+first-all true (suc d) (false ∷ xs) q = absurd (false≢true (sym (and-false (leb (suc d) (suc (length xs)))) ∙ q))
+first-all false (suc d) (true ∷ xs) q = absurd (false≢true (sym (and-false (leb (suc d) (suc (length xs)))) ∙ q))
+first-all false (suc d) (false ∷ xs) q = ap (λ (ys : List Bool). false ∷ ys) (first-all false d xs (rw (leb·suc-suc d (length xs)) at q))
+
+all-first : (b : Bool) (d : ℕ) (ys : List Bool) → allFirst b d (replicate d b ++ ys) ≡ true
+unfolding allAre
+all-first b zero ys = rw (leb·zero (length ys))
+all-first b (suc d) ys = rw (leb·suc-suc, same b) (all-first b d ys)
+
+-- whether a stretch ends, by the setting in force
+ends-by : (b : Bool) (xs : List Bool) (o u : ℕ) (os : List Observation) → stretchEnds b (map judged xs ++ (setting o u ∷ os)) ≡ allFirst b (durationOf b o u) xs
+ends-by b xs o u os = ap₂ (allFirst b) (duration-is b xs o u os) (since-is xs o u os)
+
+pub stretch-split : (b : Bool) (os : List Observation) → InForce os → (stretchEnds b os ≡ true) ↔ FullStretch b os
+stretch-split b os i = (to, from)
+  where
+    to : stretchEnds b os ≡ true → FullStretch b os
+    to q =
+        let d = durationOf b (i .over) (i .under) in
+        let tail = setting (i .over) (i .under) ∷ i .before in
+        let a = first-all b d (i .samples) (sym (ends-by b (i .samples) (i .over) (i .under) (i .before)) ∙ ap (stretchEnds b) (sym (i .split)) ∙ q) in
+        record {
+          others = drop d (i .samples);
+          over = i .over;
+          under = i .under;
+          before = i .before;
+          split = i .split ∙ ap (λ (xs : List Bool). map judged xs ++ tail) a ∙ rw (map-append judged) (append-assoc (map judged (replicate d b)) (map judged (drop d (i .samples))) tail);
+        }
+
+    from : FullStretch b os → stretchEnds b os ≡ true
+    from s =
+        let d = durationOf b (s .over) (s .under) in
+        let tail = setting (s .over) (s .under) ∷ s .before in
+        ap (stretchEnds b) (s .split)
+        ∙ ap (stretchEnds b) (sym (append-assoc (map judged (replicate d b)) (map judged (s .others)) tail) ∙ ap (λ (os : List Observation). os ++ tail) (sym (map-append judged (replicate d b) (s .others))))
+        ∙ ends-by b (replicate d b ++ s .others) (s .over) (s .under) (s .before)
+        ∙ all-first b d (s .others)
+
+-- 'Exceeded is yes if the latest full stretch, under any settings, was over; no if it was under or there is none'
+pub exceeded-split : (os : List Observation) (b : Bool) → (exceeded os ≡ b) ↔ LatestElse stretchAt false os b
+unfolding exceeded
+exceeded-split = latest-split stretchAt exceeded more
+  where
+    by : (x y r : Bool) → cond x true (cond y false r) ≡ otherwise (cond x (some true) (given y false)) r
+    by true y r = refl
+    by false true r = refl
+    by false false r = refl
+
+    more : (e : Observation) (os : List Observation) → exceeded (e ∷ os) ≡ otherwise (stretchAt e os) (exceeded os)
+    more (setting o u) os = refl
+    more (judged c) os = by (stretchEnds true (judged c ∷ os)) (stretchEnds false (judged c ∷ os)) (exceeded os)
+
+trailing-same : (b : Bool) (n : ℕ) (ys : List Bool) → trailing b ys ≡ 0 → trailing b (replicate n b ++ ys) ≡ n
+unfolding trailing
+trailing-same b zero ys z = z
+trailing-same b (suc n) ys z = rw (same b, trailing-same b n ys z)
+
+stops : (b : Bool) (ys : List Bool) → trailing b (not b ∷ ys) ≡ 0
+unfolding trailing
+stops true ys = refl
+stops false ys = refl
+
+pub trailing-split : (b : Bool) (xs : List Bool) (n : ℕ) → (trailing b xs ≡ n) ↔ Trailing b xs n
+unfolding trailing
+trailing-split b xs n = (λ e. subst (Trailing b xs) e (split b xs), from)
+  where
+    more : (c : Bool) (ys : List Bool) → Trailing c ys (trailing c ys) → Trailing c (c ∷ ys) (suc (trailing c ys))
+    more c ys (all q) = all (ap (λ (zs : List Bool). c ∷ zs) q)
+    more c ys (broken others q) = broken others (ap (λ (zs : List Bool). c ∷ zs) q)
+
+    split : (c : Bool) (ys : List Bool) → Trailing c ys (trailing c ys)
+    split c [] = all refl
+    split true (true ∷ ys) = more true ys (split true ys)
+    split true (false ∷ ys) = broken ys refl
+    split false (true ∷ ys) = broken ys refl
+    split false (false ∷ ys) = more false ys (split false ys)
+
+    from : Trailing b xs n → trailing b xs ≡ n
+    from (all q) = ap (trailing b) (q ∙ sym (append-nil (replicate n b))) ∙ trailing-same b n [] refl
+    from (broken others q) = ap (trailing b) q ∙ trailing-same b n (not b ∷ others) (stops b others)
+
+-- 'Run counts the trailing samples since the last limiter setting that are over (not Exceeded) or not over (Exceeded)'
+pub run-split : (f : Fresh) (h : History) (i : InForce (observations f h)) (n : ℕ) → (runOf f h ≡ n) ↔ Trailing (not (exceededOf f h)) (i .samples) n
+run-split f h i n =
+    let since : sinceSetting (observations f h) ≡ i .samples = ap sinceSetting (i .split) ∙ since-is (i .samples) (i .over) (i .under) (i .before) in
+    rw since (trailing-split (not (exceededOf f h)) (i .samples) n)

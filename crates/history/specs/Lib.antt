@@ -1,0 +1,10 @@
+pub mod Effects
+pub mod Last
+pub mod Limiter
+pub mod Switch
+pub mod Registers
+pub mod Logs
+pub mod Account
+pub mod Splits
+pub mod Laws
+pub mod Examples

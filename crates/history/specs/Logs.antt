@@ -1,0 +1,71 @@
+-- 'Logs: the newest 32 lines owed by the call rules since that log was last cleared, its 255 included; moves, firings and clocks are this
+-- account's up to that call.'
+use Prim.Native.Nat.{ℕ}
+use mathlib.Core.Bool.{Bool, true, false, not, _&&_, cond}
+use mathlib.Core.List.{List, [], _∷_, _++_}
+use lib.Dec.{eqb}
+use Rattle.events.specs.Line.{Line, line, newest}
+use Rattle.history.specs.Effects.{Fresh, Request, remoteDisconnect, remoteReconnect, manualDisconnect, manualReconnect, Register, alarms, errors, Effect, sampled, requested, modeSet, limitsSet, clockSet, occurred, filterSet, bitsCleared, logCleared}
+use Rattle.history.specs.Last.{History, clockOf}
+use Rattle.history.specs.Limiter.{firesOver, firesUnder}
+use Rattle.history.specs.Switch.{switchOf}
+
+-- the lines, if the test passes
+abbrev pub when : Bool → List Line → List Line
+when true xs = xs
+when false xs = []
+
+-- the call moves the switch
+abbrev pub moves : Fresh → Effect → History → Bool
+moves f e h = not (eqb (switchOf f h) (switchOf f (e ∷ h)))
+
+-- the line of a request that moves the switch, by where it goes: 'Line in log 3'
+abbrev pub requestCode : Request → ℕ → ℕ
+requestCode remoteDisconnect to = 62
+requestCode remoteReconnect to = cond (eqb to 1) 63 59
+requestCode manualDisconnect to = 60
+requestCode manualReconnect to = 61
+
+-- '.. standard line 11 or 10 ..'
+abbrev pub clearCode : Register → ℕ
+clearCode alarms = 11
+clearCode errors = 10
+
+-- the lines that a call owes to log n, oldest first; 'Every line not otherwise described bears the clock after the call',
+-- and call 8's is described: '.. standard line 4 with the old clock ..'
+abbrev pub owedBy : Fresh → ℕ → Effect → History → List Line
+owedBy f n (sampled p) h =
+    let now = clockOf f (sampled p ∷ h) in
+    when (eqb n 3)
+    (when (firesOver f (sampled p) h) (line now 65 ∷ when (moves f (sampled p) h) (line now 64 ∷ []))
+    ++ when (firesUnder f (sampled p) h) (line now 66 ∷ when (moves f (sampled p) h) (line now 69 ∷ [])))
+owedBy f n (requested q) h =
+    when (eqb n 3 && moves f (requested q) h) (line (clockOf f (requested q ∷ h)) (requestCode q (switchOf f (requested q ∷ h))) ∷ [])
+owedBy f n (modeSet m) h = when (eqb n 3 && moves f (modeSet m) h) (line (clockOf f (modeSet m ∷ h)) 63 ∷ [])
+owedBy f n (limitsSet t o u) h = when (eqb n 3) (line (clockOf f (limitsSet t o u ∷ h)) 67 ∷ [])
+owedBy f n (clockSet t) h = when (eqb n 1) (line (clockOf f h) 4 ∷ line (clockOf f (clockSet t ∷ h)) 5 ∷ [])
+owedBy f n (occurred r) h = when (eqb n (r .log)) (line (clockOf f (occurred r ∷ h)) (r .code) ∷ [])
+owedBy f n (filterSet s m) h = []
+owedBy f n (bitsCleared s m) h = when (eqb n 1) (line (clockOf f (bitsCleared s m ∷ h)) (clearCode s) ∷ [])
+owedBy f n (logCleared m) h = when (eqb n m) (line (clockOf f (logCleared m ∷ h)) 255 ∷ [])
+
+-- the call clears log n
+abbrev pub clearsLog : ℕ → Effect → Bool
+clearsLog n (sampled p) = false
+clearsLog n (requested q) = false
+clearsLog n (modeSet m) = false
+clearsLog n (limitsSet t o u) = false
+clearsLog n (clockSet t) = false
+clearsLog n (occurred r) = false
+clearsLog n (filterSet s m) = false
+clearsLog n (bitsCleared s m) = false
+clearsLog n (logCleared m) = eqb n m
+
+-- the lines owed since log n was last cleared, oldest first
+unfoldable pub owed : Fresh → ℕ → History → List Line
+owed f n [] = []
+owed f n (e ∷ h) = when (not (clearsLog n e)) (owed f n h) ++ owedBy f n e h
+
+-- '.. the newest 32 lines ..'
+abbrev pub logOf : Fresh → ℕ → History → List Line
+logOf f n h = newest (owed f n h)
