@@ -1,0 +1,37 @@
+-- The laws of the machine, together.
+-- Assumes nothing.
+use mathlib.Core.Path.{_≡_}
+use mathlib.Core.Bool.{true}
+use mathlib.Core.List.{List, [], _∷_, reverse, reverseAux}
+use Rattle.base.specs.Tests.{every}
+use Rattle.events.specs.Table.{Row, builtIn, lawful}
+use Rattle.events.proofs.Rule.{built-in-lawful}
+use Rattle.calls.specs.declared.Call.{Call}
+use Rattle.calls.specs.Calls.{AllInRange}
+use Rattle.meter.specs.Laws.{Laws}
+use Rattle.meter.proofs.Values.{record-of-state, state-of-record}
+use Rattle.meter.proofs.Answers.{applied-answer, refused-same, commanded-same}
+use Rattle.meter.proofs.Preserved.{applied-sound, run-sound}
+use Rattle.meter.proofs.Simulates.{simulates}
+
+-- the calls of a list are in range in either order
+turned : (xs ys : List Call) → AllInRange xs → AllInRange ys → AllInRange (reverseAux xs ys)
+turned [] ys i k = k
+turned (c ∷ xs) ys i k = turned xs (c ∷ ys) (i .1) (i .0, k)
+
+pub laws : (rows : List Row) → every lawful rows ≡ true → Laws rows
+laws rows table =
+    record {
+      record-of-state = record-of-state rows;
+      state-of-record = state-of-record rows;
+      kept-sound = λ m c z i e. applied-sound rows table m c i z e;
+      answers = applied-answer rows;
+      refused-same = λ m c n z e. refused-same rows m z c n e;
+      command-refused-same = λ m k n1 n2 n3 n4 n5 n z e. commanded-same rows m z k n1 n2 n3 n4 n5 n e;
+      reached-sound = λ f calls t i. run-sound rows table f t (reverse calls) (turned calls [] i tt);
+      simulates = λ f calls t i. simulates rows table f t (reverse calls) (turned calls [] i tt);
+    }
+
+-- of the meter with the table of document 01
+pub built-in : Laws builtIn
+built-in = laws builtIn built-in-lawful

@@ -1,0 +1,16 @@
+pub mod Effects
+pub mod Values
+pub mod Answers
+pub mod Preserved
+pub mod Parts
+pub mod Clock
+pub mod Ranges
+pub mod Registers
+pub mod Stretches
+pub mod Switch
+pub mod Lines
+pub mod Owed
+pub mod Simulates
+pub mod Laws
+pub mod Steps
+pub mod Tail

@@ -1,0 +1,48 @@
+use mathlib.Core.Path.{_≡_, refl, _∙_}
+use mathlib.Core.List.{[], _∷_}
+use mathlib.Core.Logic.{inl, inr}
+use native.Mathlib.Omega.{arith}
+use types.Run.{OneOf}
+use denote.Enum.Declared.{tagOf}
+use borrow.Author.Needs.{needs}
+use Rattle.control.specs.declared.Decision.{Decision}
+use Rattle.control.specs.declared.Decision.the-variants.{Move, Stay, NotListed}
+use Rattle.control.proofs.Decision as decisions
+use Rattle.meter.specs.declared.step.Scalars.{Scalars}
+use Rattle.meter.specs.Machine.{moving, answering, requestResult, stepOf}
+use Rattle.meter.proofs.step.Scalars.request.Statement.{statement}
+use Rattle.meter.proofs.step.Scalars.request.Tie as tie
+
+-- what is listed is carried out
+listed : (s : Scalars) (d : Decision) → OneOf (0 ∷ 1 ∷ []) (tagOf decisions.the-type d) → stepOf (moving s [] d) ≡ stepOf (answering s d)
+listed s (Move t c o) h = refl
+listed s Stay h = refl
+listed s NotListed (inl e) = absurd (omega arith)
+listed s NotListed (inr e) = absurd (omega arith)
+
+decide-requires : tie.Need-decide-requires
+decide-requires c κs = search needs
+
+enum-told : tie.Need-enum-told
+enum-told c = search needs
+
+refused-requires : tie.Need-refused-requires
+refused-requires c κs = search needs
+
+switched-requires : tie.Need-switched-requires
+switched-requires c κs = search needs
+
+returns : tie.Need-returns
+unfolding requestResult
+returns c = rw (← c .before .before .before .decide .ensures, c .before .enum-told .given .1) (c .refused .ensures)
+
+returns-2 : tie.Need-returns-2
+unfolding requestResult
+returns-2 c =
+    let d = c .before .before .decide in
+    rw (← d .ensures) (c .switched .ensures ∙ listed (c .before .before .before .args .self) (d .result) (c .before .match .keys2))
+
+pub request-spec : {M : Type 1} → statement M
+request-spec =
+    tie.close
+    (tie.spec decide-requires enum-told refused-requires switched-requires returns returns-2)

@@ -1,0 +1,49 @@
+-- What holds of the machine, for any event table whose rows are all `lawful` (events/specs/Table.antt): what a reader wants beside the
+-- definitions.
+use mathlib.Core.Path.{_≡_}
+use mathlib.Core.Bool.{true}
+use mathlib.Core.List.{List, reverse}
+use Prim.Native.Nat.{ℕ}
+use Rattle.events.specs.Table.{Row}
+use Rattle.logs.specs.Layout.{Sized}
+use Rattle.calls.specs.declared.Call.{Call}
+use Rattle.calls.specs.declared.Answer.{Answer}
+use Rattle.calls.specs.declared.Answer.the-variants.{Accepted, Refused}
+use Rattle.calls.specs.Calls.{InRange, AllInRange}
+use Rattle.history.specs.Effects.{Fresh, Reading, refused, accepted, reading}
+use Rattle.history.specs.Account.{account}
+use Rattle.meter.specs.declared.Meter.{Meter}
+use Rattle.meter.specs.State.{State, stateOf, recordOf}
+use Rattle.meter.specs.Sound.{soundMeter, soundState}
+use Rattle.meter.specs.Machine.{applied, commanded}
+use Rattle.meter.specs.Fresh.{Settings, holding, recordAfter}
+
+-- the answer that the account's rule of refusals gives
+abbrev pub answerOf : Reading → Answer
+answerOf (refused n) = Refused n
+answerOf (accepted e) = Accepted
+
+-- the record after a list of calls, in their order
+abbrev pub lastRecord : List Row → Fresh → List Call → Meter
+lastRecord rows f calls = recordAfter rows f (reverse calls)
+
+pub record Laws (rows : List Row) : Type 0 where
+  -- a sound record is the layout of its values, and sound values are those of their layout
+  pub record-of-state : (m : Meter) → Sized (m .logs) → soundMeter rows m ≡ true → recordOf (stateOf m) ≡ m
+  pub state-of-record : (v : State) → soundState rows v ≡ true → stateOf (recordOf v) ≡ v
+  -- every call keeps a sound record sound
+  pub kept-sound : (m : Meter) (c : Call) → Sized (m .logs) → InRange c → soundMeter rows m ≡ true
+      → soundMeter rows (applied rows m c .meter) ≡ true
+  -- for a sound record the answer is the one that the account's rule gives: each number comes under its condition only
+  pub answers : (m : Meter) (c : Call) → soundMeter rows m ≡ true
+      → applied rows m c .answer ≡ answerOf (reading rows (m .control .mode) c)
+  -- on any refusal the record is the one that came in, of a call and of a command
+  pub refused-same : (m : Meter) (c : Call) (n : ℕ) → Sized (m .logs) → applied rows m c .answer ≡ Refused n
+      → applied rows m c .meter ≡ m
+  pub command-refused-same : (m : Meter) (k n1 n2 n3 n4 n5 n : ℕ) → Sized (m .logs)
+      → commanded rows m k n1 n2 n3 n4 n5 .answer ≡ Refused n → commanded rows m k n1 n2 n3 n4 n5 .meter ≡ m
+  -- after any list of calls from accepted fresh settings, refused calls among them, the record is sound: 12 never comes
+  pub reached-sound : (f : Fresh) (calls : List Call) → Settings f → AllInRange calls → soundMeter rows (lastRecord rows f calls) ≡ true
+  -- and it is the record that holds the account
+  pub simulates : (f : Fresh) (calls : List Call) → Settings f → AllInRange calls
+      → lastRecord rows f calls ≡ recordOf (holding (account rows f calls))
