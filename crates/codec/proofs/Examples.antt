@@ -40,3 +40,12 @@ pair-example = refl
 times-example : times 2 (num 4 ⊗ num 1) .dec (0 ∷ 0 ∷ 1 ∷ 2 ∷ 7 ∷ 0 ∷ 0 ∷ 0 ∷ 9 ∷ 8 ∷ []) 0 ≡ (258, 7) ∷ (9, 8) ∷ []
 unfolding numAt
 times-example = refl
+
+-- the second part of a pair and the second of two values are tested too: 2 is no flag
+pair-tested : (num 1 ⊗ flag) .valid (0 ∷ 2 ∷ []) 0 ≡ false
+unfolding numAt
+pair-tested = refl
+
+times-tested : times 2 flag .valid (1 ∷ 2 ∷ []) 0 ≡ false
+unfolding numAt
+times-tested = refl
