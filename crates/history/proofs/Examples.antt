@@ -3,13 +3,15 @@
 use Prim.Native.Nat.{ℕ}
 use mathlib.Core.Path.{_≡_, refl}
 use mathlib.Core.Bool.{Bool, true, false}
+use mathlib.Core.Option.{none}
 use mathlib.Core.List.{List, [], _∷_, _++_, map}
 use lib.IntN.{pos, negsuc}
 use lib.ListN.{getD}
 use Rattle.events.specs.Line.{Line, line}
 use Rattle.calls.specs.declared.Call.{Call}
 use Rattle.calls.specs.declared.Call.the-variants.{Sample, RemoteDisconnect, RemoteReconnect, ManualDisconnect, ManualReconnect, SetMode, SetLimiter, SetClock, Event, SetAlarmFilter, SetErrorFilter, ClearAlarms, ClearErrors, ClearLog, Script}
-use Rattle.history.specs.Effects.{Fresh}
+use Rattle.history.specs.Effects.{Fresh, remoteDisconnect, manualDisconnect, manualReconnect, sampled, requested}
+use Rattle.history.specs.Switch.{decides}
 use Rattle.history.specs.Account.{accountOf}
 use Rattle.history.specs.Examples.{fresh, after, answer, codes, WorkedExample}
 
@@ -155,6 +157,14 @@ mode-at-the-call = refl
 spell-inside : positions (fresh 5 3 1 1 1000) [] (RemoteDisconnect ∷ ManualReconnect ∷ ManualDisconnect ∷ over ∷ under ∷ SetMode 6 ∷ RemoteDisconnect ∷ []) ≡ 0 ∷ 0 ∷ 0 ∷ 0 ∷ 0 ∷ 0 ∷ 0 ∷ []
 unfolding after
 spell-inside = refl
+
+-- 'Calls inside a spell decide nothing': neither the key nor a sample that fires
+inside-a-spell :
+    map (λ e. decides (fresh 5 3 1 1 1000) e (requested remoteDisconnect ∷ []))
+    (requested manualReconnect ∷ requested manualDisconnect ∷ sampled (pos 4) ∷ [])
+    ≡ none ∷ none ∷ none ∷ []
+unfolding after
+inside-a-spell = refl
 
 spell-ended-by-mode-zero : positions (fresh 1 3 1 1 1000) [] (ManualDisconnect ∷ RemoteDisconnect ∷ SetMode 0 ∷ []) ≡ 2 ∷ 0 ∷ 1 ∷ []
 unfolding after
