@@ -14,7 +14,7 @@ use lib.Signed.{pos-natAbs}
 use borrow.Author.Tests.{leb-true}
 use mir.Val.{boolByte}
 use Rattle.base.proofs.Bools.{and-left, and-right}
-use Rattle.codec.specs.Format.{numAt, Format, num, flag, natural, _⊗_, encs, decs, allValid, AllHold, times, via}
+use Rattle.codec.specs.Format.{numAt, Format, num, flag, natural, _⊗_, encs, decs, allValid, AllHold, times, viaOn, via}
 use Rattle.codec.specs.Lawful.{Bytes, Lawful}
 use Rattle.codec.proofs.Numbers.{length-be, numAt-be, be-numAt, numAt-lt}
 
@@ -162,12 +162,19 @@ module _ {A : Type 0} {F : Format A} (LF : Lawful F) where
     held-read = decs-held n;
   }
 
-pub via-lawful : {A B : Type 0} {F : Format A} (to : B → A) (from : A → B) → ((b : B) → from (to b) ≡ b) → ((a : A) → to (from a) ≡ a)
-    → Lawful F → Lawful (via F to from)
-via-lawful {F = F} to from back forth LF = record {
-  length-enc = λ b h. LF .length-enc (to b) h;
-  read-written = λ b h p r. ap from (LF .read-written (to b) h p r) ∙ back b;
-  valid-written = λ b h p r. LF .valid-written (to b) h p r;
-  write-read = λ s at y f h. ap (F .enc) (forth (F .dec s at)) ∙ LF .write-read s at y f h;
-  held-read = λ s at y f. subst⁻¹ (F .Holds) (forth (F .dec s at)) (LF .held-read s at y f);
-}
+module _ {A B : Type 0} {F : Format A} (to : B → A) (from : A → B) where
+  -- `from` undoes `to` where P holds; `to` undoes `from`, and P holds of what `from` makes, on what the bytes can hold
+  pub viaOn-lawful : (P : B → Type 0) → ((b : B) → P b → from (to b) ≡ b) → ((a : A) → F .Holds a → to (from a) ≡ a)
+      → ((a : A) → F .Holds a → P (from a)) → Lawful F → Lawful (viaOn F to from P)
+  viaOn-lawful P back forth made LF = record {
+    length-enc = λ b h. LF .length-enc (to b) (h .0);
+    read-written = λ b h p r. ap from (LF .read-written (to b) (h .0) p r) ∙ back b (h .1);
+    valid-written = λ b h p r. LF .valid-written (to b) (h .0) p r;
+    write-read = λ s at y f h. ap (F .enc) (forth (F .dec s at) (LF .held-read s at y f)) ∙ LF .write-read s at y f h;
+    held-read = λ s at y f.
+        let held = LF .held-read s at y f in
+        (subst⁻¹ (F .Holds) (forth (F .dec s at) held) held, made (F .dec s at) held);
+  }
+
+  pub via-lawful : ((b : B) → from (to b) ≡ b) → ((a : A) → to (from a) ≡ a) → Lawful F → Lawful (via F to from)
+  via-lawful back forth LF = viaOn-lawful (λ b. Unit) (λ b h. back b) (λ a h. forth a) (λ a h. tt) LF

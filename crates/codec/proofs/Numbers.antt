@@ -13,7 +13,7 @@ use lib.Seq.{getD-at, drop-cons}
 use Rattle.codec.specs.Format.{be, numAt}
 use Rattle.codec.specs.Lawful.{Bytes}
 
-pow-pos : (k : ℕ) → 0 < 256 ^ k
+pub pow-pos : (k : ℕ) → 0 < 256 ^ k
 pow-pos zero = omega arith
 pow-pos (suc k) = rw pow-succ' (omega (arith, pow-pos k))
 

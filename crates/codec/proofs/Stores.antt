@@ -49,7 +49,7 @@ module _ {A : Type 0} (F : Format A) where
   encs-snoc (a ∷ l) zero d lt = append-nil (F .enc a)
   encs-snoc (a ∷ l) (suc j) d lt = rw (encs-snoc l j d (omega arith), append-assoc)
 
-  decs-snoc : (n : ℕ) (s : List ℕ) (at : ℕ) → decs F (suc n) s at ≡ decs F n s at ++ (F .dec s (at + n * F .width) ∷ [])
+  pub decs-snoc : (n : ℕ) (s : List ℕ) (at : ℕ) → decs F (suc n) s at ≡ decs F n s at ++ (F .dec s (at + n * F .width) ∷ [])
   decs-snoc zero s at = rw (zero-mul, add-zero)
   decs-snoc (suc n) s at =
       let e : at + F .width + n * F .width ≡ at + suc n * F .width = rw suc-mul (omega arith) in

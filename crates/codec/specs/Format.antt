@@ -102,12 +102,16 @@ times n F = record {
   Holds = λ l. (length l ≡ n) × AllHold F l;
 }
 
--- a record by its fields: `to` takes it apart, `from` makes it
-abbrev pub via : {A B : Type 0} → Format A → (B → A) → (A → B) → Format B
-via F to from = record {
+-- a type of values by another: `to` takes a value apart, `from` makes it, on the values of which P holds
+abbrev pub viaOn : {A B : Type 0} → Format A → (B → A) → (A → B) → (B → Type 0) → Format B
+viaOn F to from P = record {
   width = F .width;
   enc = λ b. F .enc (to b);
   dec = λ s at. from (F .dec s at);
   valid = F .valid;
-  Holds = λ b. F .Holds (to b);
+  Holds = λ b. F .Holds (to b) × P b;
 }
+
+-- a record by its fields, whatever they are
+abbrev pub via : {A B : Type 0} → Format A → (B → A) → (A → B) → Format B
+via F to from = viaOn F to from (λ b. Unit)
