@@ -8,7 +8,7 @@ use borrow.Author.Tests.{eqb-true}
 use Rattle.calls.specs.declared.Call.{Call}
 use Rattle.calls.specs.declared.Call.the-variants.{Sample, RemoteDisconnect, RemoteReconnect, ManualDisconnect, ManualReconnect, SetMode, SetLimiter, SetClock, Event, SetAlarmFilter, SetErrorFilter, ClearAlarms, ClearErrors, ClearLog, Script}
 use Rattle.calls.specs.declared.Parsed.{Parsed}
-use Rattle.calls.specs.declared.Parsed.the-variants.{Ok, NoKind}
+use Rattle.calls.specs.declared.Parsed.the-variants.{Ok}
 use Rattle.calls.specs.Calls.{kindOf, signedOf, callOf}
 
 -- one kind of the list: the call is this one, or one of the rest
