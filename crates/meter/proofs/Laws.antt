@@ -15,7 +15,7 @@ use Rattle.meter.proofs.Preserved.{applied-sound, run-sound}
 use Rattle.meter.proofs.Simulates.{simulates}
 
 -- the calls of a list are in range in either order
-turned : (xs ys : List Call) → AllInRange xs → AllInRange ys → AllInRange (reverseAux xs ys)
+pub turned : (xs ys : List Call) → AllInRange xs → AllInRange ys → AllInRange (reverseAux xs ys)
 turned [] ys i k = k
 turned (c ∷ xs) ys i k = turned xs (c ∷ ys) (i .1) (i .0, k)
 

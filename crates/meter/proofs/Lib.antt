@@ -14,3 +14,4 @@ pub mod Simulates
 pub mod Laws
 pub mod Steps
 pub mod Tail
+pub mod Accepting

@@ -17,10 +17,11 @@ use Rattle.logs.specs.Lists.{changed}
 use Rattle.logs.specs.Arrays.{ownCodes, zeroPast, soundLog, soundArrays}
 use Rattle.logs.specs.Layout.{padded, flat, laid, listsOf, soundLogs}
 use Rattle.calls.specs.declared.Call.{Call}
-use Rattle.calls.specs.declared.Call.the-variants.{Sample, RemoteDisconnect, ManualReconnect, SetMode, SetLimiter, Event, Script}
+use Rattle.calls.specs.declared.Call.the-variants.{Sample, SetLimiter, Event}
 use Rattle.calls.specs.declared.Answer.the-variants.{Accepted, Refused}
 use Rattle.calls.specs.Calls.{answerNumber}
 use Rattle.history.specs.Effects.{Fresh}
+use Rattle.history.specs.Examples.{bench, benchCalls}
 use Rattle.meter.specs.declared.Meter.{Meter}
 use Rattle.meter.specs.State.{recordOf}
 use Rattle.meter.specs.Sound.{soundScalars, soundMeter}
@@ -34,6 +35,7 @@ pub record Printed : Type 0 where
   pub switch : ℕ
   pub openings : ℕ
 
+-- a line of these four numbers
 abbrev pub printed : ℕ → ℕ → ℕ → ℕ → Printed
 printed k n s o = record { position = k; refusal = n; switch = s; openings = o }
 
@@ -54,22 +56,9 @@ listing f cs =
     let m = recordOf (freshState f) in
     lineOf 1 0 m ∷ linesFrom 2 m cs
 
--- 'Fresh (5, 3000, 2, 3, 1000)'
-abbrev pub settings : Fresh
-settings = record { mode = 5; threshold = pos 3000; over = 2; under = 3; clock = 1000 }
-
--- 'samples 3000, 3001, 3001; call 5; samples 0, −5, 0; call 2; call 5; script 3; script 2; mode 7; mode 0; call 2'
-abbrev pub calls : List Call
-calls =
-    Sample (pos 3000) ∷ Sample (pos 3001) ∷ Sample (pos 3001)
-    ∷ ManualReconnect
-    ∷ Sample (pos 0) ∷ Sample (negsuc 4) ∷ Sample (pos 0)
-    ∷ RemoteDisconnect ∷ ManualReconnect ∷ Script 3 ∷ Script 2 ∷ SetMode 7 ∷ SetMode 0 ∷ RemoteDisconnect
-    ∷ []
-
 -- the printed lines at some positions
 abbrev pub linesAt : List ℕ → List Printed
-linesAt ks = map (λ k. getD (listing settings calls) (k - 1) (printed 0 0 0 0)) ks
+linesAt ks = map (λ k. getD (listing bench benchCalls) (k - 1) (printed 0 0 0 0)) ks
 
 -- log n of a record
 abbrev pub logIn : Meter → ℕ → List Line
@@ -92,14 +81,14 @@ pub record Examples : Type 0 where
       ≡ printed 3 0 1 0 ∷ printed 4 0 2 1 ∷ printed 8 0 1 1 ∷ printed 10 0 0 2 ∷ printed 12 0 2 2 ∷ printed 14 0 1 2 ∷ printed 15 2 1 2 ∷ []
   -- 'Log 3 then: 65, 64, 61 at 1003; 66, 62, 59, 63 at 1006'
   pub log :
-      logIn (recordAfter builtIn settings (reverse calls)) 3
+      logIn (recordAfter builtIn bench (reverse benchCalls)) 3
       ≡ line 1003 65 ∷ line 1003 64 ∷ line 1003 61 ∷ line 1006 66 ∷ line 1006 62 ∷ line 1006 59 ∷ line 1006 63 ∷ []
   pub power : isOver (pos 0) (negsuc 2147483647) ≡ false
-  pub taken : applied builtIn (recordAfter builtIn settings []) (SetLimiter (pos 3000) 86400 3) .answer ≡ Accepted
-  pub refused : applied builtIn (recordAfter builtIn settings []) (SetLimiter (pos 3000) 86401 3) .answer ≡ Refused 5
+  pub taken : applied builtIn (recordAfter builtIn bench []) (SetLimiter (pos 3000) 86400 3) .answer ≡ Accepted
+  pub refused : applied builtIn (recordAfter builtIn bench []) (SetLimiter (pos 3000) 86401 3) .answer ≡ Refused 5
   -- 32 lines stand; of 33, the first is dropped
-  pub full : logIn (recordAfter builtIn settings (eachSecond 32)) 1 ≡ linesOf 1 1001 32
-  pub dropped : logIn (recordAfter builtIn settings (eachSecond 33)) 1 ≡ linesOf 1 1002 32
+  pub full : logIn (recordAfter builtIn bench (eachSecond 32)) 1 ≡ linesOf 1 1001 32
+  pub dropped : logIn (recordAfter builtIn bench (eachSecond 33)) 1 ≡ linesOf 1 1002 32
 
 pub examples : Examples
 unfolding linesFrom recordAfter applied soundMeter soundScalars soundControl soundLimiter soundLogs soundArrays soundLog ownCodes zeroPast padded flat laid listsOf changed newest among every below builtIn lookup besides mayHold switchTable decision modeDecision watched requestResult sampleResult modeResult limiterResult eventResult scriptResult

@@ -1,0 +1,77 @@
+// The fresh meter: the record that the first call of a history gets.
+ghost use mathlib.Core.Path.{_≡_};
+ghost use Rattle.meter.specs.State.{recordOf};
+ghost use Rattle.meter.specs.Fresh.{settingsOf, freshState, refusedOutcome, freshOutcome};
+use crate::Meter;
+use crate::Outcome;
+use calls::Answer;
+use control::Control;
+use limiter::Limiter;
+use logs::Logs;
+use registers::Register;
+
+// The record of these settings, which are not judged here.
+fn with_settings(mode: u8, threshold: i32, over: u32, under: u32, clock: u32) -> Meter
+    ensures { λ r. ⌜ r ≡ recordOf (freshState (settingsOf mode threshold over under clock)) ⌝ }
+{
+    Meter {
+        control: Control {
+            mode,
+            state: 1,
+            openings: 0,
+        },
+        limiter: Limiter {
+            threshold,
+            over,
+            under,
+            exceeded: false,
+            run: 0,
+        },
+        clock,
+        alarms: Register { bits: 0, filter: 0 },
+        errors: Register { bits: 0, filter: 0 },
+        logs: Logs {
+            counts: [0u8; 3],
+            clocks: [0u32; 96],
+            codes: [0u8; 96],
+        },
+    }
+}
+
+impl Outcome {
+    // Where there is no record to hand back, a refusal hands back a sound meter all the same, always
+    // the same one.
+    pub fn refused(number: u8) -> Outcome
+        ensures { λ r. ⌜ r ≡ refusedOutcome number ⌝ }
+    {
+        let meter = with_settings(0, 0, 1, 1, 0);
+        Outcome {
+            meter,
+            answer: Answer::Refused(number),
+        }
+    }
+}
+
+impl Meter {
+    // A meter with these settings: connected, with nothing counted, raised or logged. 1 for a mode
+    // above 6, judged at its full width; 4 if the threshold is negative, 5 if a duration is not 1 to
+    // 86,400.
+    pub fn fresh(mode: u32, threshold: i32, over: u32, under: u32, clock: u32) -> Outcome
+        ensures { λ r. ⌜ r ≡ freshOutcome mode threshold over under clock ⌝ }
+    {
+        if 6 < mode {
+            return Outcome::refused(1);
+        }
+        if threshold < 0 {
+            return Outcome::refused(4);
+        }
+        if !(limiter::is_duration(over) & limiter::is_duration(under)) {
+            return Outcome::refused(5);
+        }
+        let meter = with_settings(mode as u8, threshold, over, under, clock);
+        Outcome {
+            meter,
+            answer: Answer::Accepted,
+        }
+    }
+}

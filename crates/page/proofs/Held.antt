@@ -1,0 +1,95 @@
+-- The numbers of a sound record whose numbers are values of their types fit the page's bytes.
+-- Assumes nothing.
+use mathlib.Core.Path.{_≡_, refl}
+use mathlib.Core.Bool.{Bool, true, false, _&&_, cond}
+use mathlib.Core.List.{List}
+use Prim.Native.Nat.{ℕ, zero, suc, _<_, _≤_, _^_}
+use native.Mathlib.Omega.{arith}
+use lib.Dec.{leb, ltb}
+use lib.ListN.{getD}
+use borrow.Author.Tests.{leb-true, ltb-true}
+use Rattle.base.proofs.Bools.{and-left, and-right}
+use Rattle.codec.specs.Format.{AllHold}
+use Rattle.registers.specs.declared.Register.{Register}
+use Rattle.events.specs.Table.{builtIn}
+use Rattle.control.specs.declared.Control.{Control}
+use Rattle.control.specs.Control.{soundControl}
+use Rattle.limiter.specs.declared.Limiter.{Limiter}
+use Rattle.limiter.specs.Limiter.{isThreshold, isDuration, awaited, soundSettings, soundLimiter}
+use Rattle.logs.specs.declared.Logs.{Logs}
+use Rattle.logs.specs.Layout.{Sized, soundLogs}
+use Rattle.calls.specs.Calls.{Word}
+use Rattle.meter.specs.declared.Meter.{Meter}
+use Rattle.meter.specs.Sound.{soundScalars, soundMeter}
+use Rattle.page.specs.Layout.{controlArea, limiterArea, registerArea, lineFormat, logArea, logsArea, linesAt, layout}
+use Rattle.page.specs.Laws.{Typed}
+use Rattle.page.proofs.Lines.{length-lines}
+use Rattle.page.proofs.Threshold.{threshold-held}
+
+-- ---- what soundness bounds
+control-held : (c : Control) → soundControl c ≡ true → Word (c .openings) → controlArea .Holds c
+unfolding soundControl
+control-held c e openings =
+    let ranges = and-left (leb (c .mode) 6 && leb (c .state) 2) _ e in
+    let mode = leb-true (c .mode) 6 (and-left (leb (c .mode) 6) (leb (c .state) 2) ranges) in
+    let state = leb-true (c .state) 2 (and-right (leb (c .mode) 6) (leb (c .state) 2) ranges) in
+    ((omega arith, (omega arith, omega arith)), tt)
+
+duration : (n : ℕ) → isDuration n ≡ true → n ≤ 86400
+duration n e = leb-true n 86400 (and-right (leb 1 n) (leb n 86400) e)
+
+awaited-range : (l : Limiter) (b : Bool) → l .over ≤ 86400 → l .under ≤ 86400 → cond b (l .under) (l .over) ≤ 86400
+awaited-range l true o u = u
+awaited-range l false o u = o
+
+limiter-held : (l : Limiter) → soundLimiter l ≡ true → limiterArea .Holds l
+unfolding soundLimiter
+limiter-held l e =
+    let settings = and-left (soundSettings l) (ltb (l .run) (awaited l)) e in
+    let first = and-left (isThreshold (l .threshold) && isDuration (l .over)) (isDuration (l .under)) settings in
+    let over = duration (l .over) (and-right (isThreshold (l .threshold)) (isDuration (l .over)) first) in
+    let under = duration (l .under) (and-right (isThreshold (l .threshold) && isDuration (l .over)) (isDuration (l .under)) settings) in
+    let run = ltb-true (l .run) (awaited l) (and-right (soundSettings l) (ltb (l .run) (awaited l)) e) in
+    let most = awaited-range l (l .exceeded) over under in (
+      (threshold-held (l .threshold) (and-left (isThreshold (l .threshold)) (isDuration (l .over)) first), (omega arith, (omega arith, (tt, omega arith)))),
+      tt,
+    )
+
+-- ---- what the types bound
+register-held : (r : Register) → Word (r .bits) → Word (r .filter) → registerArea .Holds r
+register-held r bits filter = ((omega arith, omega arith), tt)
+
+lines-held : (k at : ℕ) (ts cs : List ℕ) → ((i : ℕ) → getD ts i 0 < 256 ^ 4) → ((i : ℕ) → getD cs i 0 < 256 ^ 1) → AllHold lineFormat (linesAt k at ts cs)
+unfolding linesAt
+lines-held zero at ts cs t c = tt
+lines-held (suc k) at ts cs t c = (((t at, c at), tt), lines-held k (suc at) ts cs t c)
+
+module _ (g : Logs) (n : (i : ℕ) → getD (g .counts) i 0 < 256 ^ 1) (t : (i : ℕ) → getD (g .clocks) i 0 < 256 ^ 4) (c : (i : ℕ) → getD (g .codes) i 0 < 256 ^ 1) where
+  log-held : (i at : ℕ) → logArea .Holds (getD (g .counts) i 0, linesAt 32 at (g .clocks) (g .codes))
+  log-held i at = (n i, (length-lines 32 at (g .clocks) (g .codes), lines-held 32 at (g .clocks) (g .codes) t c))
+
+  logs-held : Sized g → logsArea .Holds g
+  logs-held z = ((refl, (log-held 0 0, (log-held 1 32, (log-held 2 64, tt)))), z)
+
+pub meter-held : (m : Meter) → Typed m → soundMeter builtIn m ≡ true → layout .Holds m
+unfolding layout soundMeter soundScalars
+meter-held m t e =
+    let scalars = and-left (soundControl (m .control) && soundLimiter (m .limiter)) (soundLogs builtIn (m .logs)) e in
+    let control = and-left (soundControl (m .control)) (soundLimiter (m .limiter)) scalars in
+    let limiter = and-right (soundControl (m .control)) (soundLimiter (m .limiter)) scalars in
+    let clock : m .clock < 256 ^ 4 = omega (arith, t .clock) in (
+      (
+        control-held (m .control) control (t .openings),
+        (
+          limiter-held (m .limiter) limiter,
+          (
+            clock,
+            (
+              register-held (m .alarms) (t .alarms) (t .alarmFilter),
+              (register-held (m .errors) (t .errors) (t .errorFilter), logs-held (m .logs) (t .counts) (λ i. omega (arith, t .clocks i)) (t .codes) (t .logs)),
+            ),
+          ),
+        ),
+      ),
+      tt,
+    )

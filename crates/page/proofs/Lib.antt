@@ -1,0 +1,9 @@
+pub mod Example
+pub mod Lines
+pub mod Inverse
+pub mod Threshold
+pub mod RoundTrip
+pub mod Stored
+pub mod Held
+pub mod Ranges
+pub mod Traces

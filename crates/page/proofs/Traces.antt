@@ -1,0 +1,119 @@
+-- Demand 3: the record after a list holds the account, its numbers fit the page's bytes, and a page gives back the record that it was written from.
+-- Assumes nothing.
+use mathlib.Core.Path.{_≡_, refl, sym, ap, _∙_}
+use mathlib.Core.Bool.{true}
+use mathlib.Core.List.{List, [], _∷_, reverse, reverseAux}
+use Prim.Native.Nat.{ℕ, _≤_}
+use native.Mathlib.Omega.{arith}
+use lib.ListN.{length, replicate}
+use borrow.Author.Tests.{le-leb}
+use Rattle.events.specs.Table.{builtIn}
+use Rattle.calls.specs.declared.Call.{Call}
+use Rattle.calls.specs.declared.Answer.the-variants.{Accepted}
+use Rattle.history.specs.Effects.{Fresh}
+use Rattle.history.specs.Account.{Account}
+use Rattle.meter.specs.declared.Meter.{Meter}
+use Rattle.meter.specs.State.{State, stateOf, recordOf}
+use Rattle.meter.specs.Sound.{soundMeter, soundState}
+use Rattle.meter.specs.Fresh.{Settings, holding, recordAfter}
+use Rattle.meter.proofs.Accepting.{fresh-laws}
+use Rattle.meter.proofs.Laws.{built-in, turned}
+use Rattle.meter.proofs.Values.{record-sound}
+use Rattle.meter.proofs.Simulates.{named-sound}
+use Rattle.events.proofs.Rule.{built-in-lawful}
+use Rattle.page.specs.Layout.{size, pageOf, writeAnswer}
+use Rattle.page.specs.Laws.{Typed}
+use Rattle.page.specs.Examples.{worked, unused, Examples}
+use Rattle.page.proofs.Example.{worked-page, distinct-page}
+use Rattle.page.specs.Demand3.{Trace, recordFrom, lastRecord, pageAfter, accountOf, accountPage, Demand3}
+use Rattle.page.proofs.RoundTrip.{laws}
+use Rattle.page.proofs.Ranges.{account-typed}
+
+-- the calls in their order, on the record that those before left
+pub record-from : (f : Fresh) (before calls : List Call) → recordFrom (recordAfter builtIn f before) calls ≡ recordAfter builtIn f (reverseAux calls before)
+unfolding recordFrom recordAfter
+record-from f before [] = refl
+record-from f before (c ∷ calls) = record-from f (c ∷ before) calls
+
+-- an account is the one whose values it names
+abbrev named : State → Account
+named v =
+    record {
+      mode = v .scalars .control .mode;
+      switch = v .scalars .control .state;
+      openings = v .scalars .control .openings;
+      threshold = v .scalars .limiter .threshold;
+      over = v .scalars .limiter .over;
+      under = v .scalars .limiter .under;
+      exceeded = v .scalars .limiter .exceeded;
+      run = v .scalars .limiter .run;
+      clock = v .scalars .clock;
+      alarms = v .scalars .alarms .bits;
+      alarmFilter = v .scalars .alarms .filter;
+      errors = v .scalars .errors .bits;
+      errorFilter = v .scalars .errors .filter;
+      logs = v .logs;
+    }
+
+module _ (t : Trace) where
+  settings : Settings (t .settings)
+  settings = fresh-laws .accepted-settings (t .settings) (t .settings-in-range) (t .accepted)
+
+  -- the record is the one that holds the account
+  pub last-record : lastRecord t ≡ recordOf (holding (accountOf t))
+  unfolding recordAfter
+  last-record =
+      ap (λ (m : Meter). recordFrom m (t .calls)) (fresh-laws .accepted-meter (t .settings) (t .accepted))
+      ∙ record-from (t .settings) [] (t .calls)
+      ∙ built-in .simulates (t .settings) (t .calls) settings (t .calls-in-range)
+
+  -- its values are sound, and its numbers values of their types
+  values-sound : soundState builtIn (holding (accountOf t)) ≡ true
+  values-sound = named-sound builtIn built-in-lawful (t .settings) settings (reverse (t .calls)) (turned (t .calls) [] (t .calls-in-range) tt)
+
+  typed : Typed (recordOf (holding (accountOf t)))
+  typed = account-typed (t .settings) settings (reverse (t .calls)) (turned (t .calls) [] (t .calls-in-range) tt)
+
+  record-is-sound : soundMeter builtIn (recordOf (holding (accountOf t))) ≡ true
+  record-is-sound = record-sound builtIn (holding (accountOf t)) values-sound
+
+  last-sound : soundMeter builtIn (lastRecord t) ≡ true
+  last-sound = rw last-record record-is-sound
+
+  module _ (out : List ℕ) (room : size ≤ length out) where
+    page-accepted : writeAnswer (lastRecord t) out ≡ Accepted
+    unfolding writeAnswer
+    page-accepted = rw (last-sound, le-leb size (length out) room)
+
+    page-held : pageAfter t out ≡ accountPage (accountOf t)
+    page-held = laws .accepted-page (lastRecord t) out page-accepted ∙ ap pageOf last-record
+
+-- two accounts with one page are one account
+pub same-account : (s t : Trace) → accountPage (accountOf s) ≡ accountPage (accountOf t) → accountOf s ≡ accountOf t
+same-account s t e =
+    let records = laws .injective (recordOf (holding (accountOf s))) (recordOf (holding (accountOf t))) (typed s) (typed t) (record-is-sound s) (record-is-sound t) e in
+    let values : holding (accountOf s) ≡ holding (accountOf t) =
+    sym (built-in .state-of-record (holding (accountOf s)) (values-sound s)) ∙ ap stateOf records ∙ built-in .state-of-record (holding (accountOf t)) (values-sound t) in
+    ap named values
+
+pub demand-3 : Demand3
+demand-3 s t out out′ room room′ =
+    let first = page-held s out room in
+    let second = page-held t out′ room′ in
+    record {
+      first-accepted = page-accepted s out room;
+      second-accepted = page-accepted t out′ room′;
+      first-page = first;
+      second-page = second;
+      same-account = λ e. same-account s t (sym first ∙ e ∙ second);
+      same-page = λ e. first ∙ ap accountPage e ∙ sym second;
+    }
+
+-- of the worked example and a fresh meter
+pub examples : Examples
+examples =
+    record {
+      worked-page = worked-page;
+      distinct-page = distinct-page;
+      compared = demand-3 worked unused (replicate size 255) (replicate 600 0) (omega arith) (omega arith);
+    }

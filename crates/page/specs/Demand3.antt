@@ -1,0 +1,62 @@
+-- Demand 3: 'For every two lists of the fifteen calls .., one from each meter, the page after the one equals the page after the other exactly when
+-- the accounts of the two histories are equal. Each page holds its own account, byte for byte by the layout.'
+use mathlib.Core.Path.{_≡_}
+use mathlib.Core.List.{List, [], _∷_}
+use Prim.Native.Nat.{ℕ, _≤_}
+use lib.ListN.{length, take}
+use Rattle.events.specs.Table.{builtIn}
+use Rattle.calls.specs.declared.Call.{Call}
+use Rattle.calls.specs.declared.Answer.the-variants.{Accepted}
+use Rattle.calls.specs.Calls.{AllInRange}
+use Rattle.history.specs.Effects.{Fresh}
+use Rattle.history.specs.Account.{Account, account}
+use Rattle.meter.specs.declared.Meter.{Meter}
+use Rattle.meter.specs.State.{recordOf}
+use Rattle.meter.specs.Machine.{applied}
+use Rattle.meter.specs.Fresh.{freshOf, SettingsInRange, holding}
+use Rattle.page.specs.Layout.{size, pageOf, writeAnswer, written}
+
+-- 'any two fresh meters, each with its own accepted settings', and a list of calls from each: the numbers are values of their types
+pub record Trace : Type 0 where
+  pub settings : Fresh
+  pub calls : List Call
+  pub accepted : freshOf settings .answer ≡ Accepted
+  pub settings-in-range : SettingsInRange settings
+  pub calls-in-range : AllInRange calls
+
+-- '.. each next one the record that the call before handed back, accepted or refused ..'
+unfoldable pub recordFrom : Meter → List Call → Meter
+recordFrom m [] = m
+recordFrom m (c ∷ cs) = recordFrom (applied builtIn m c .meter) cs
+
+-- 'Its first call gets the fresh meter ..': the last record is 'the fresh meter if the list is empty'
+abbrev pub lastRecord : Trace → Meter
+lastRecord t = recordFrom (freshOf (t .settings) .meter) (t .calls)
+
+-- 'A list's page is what an accepted writer, given the last record .., puts into the buffer over the page's length.'
+abbrev pub pageAfter : Trace → List ℕ → List ℕ
+pageAfter t out = take size (written (lastRecord t) out)
+
+-- 'The account comes from the fresh settings and the list alone'
+abbrev pub accountOf : Trace → Account
+accountOf t = account builtIn (t .settings) (t .calls)
+
+-- 'The account's values, put in the page's layout behind its fixed pairs, with zero where the account has nothing to put ..'
+abbrev pub accountPage : Account → List ℕ
+accountPage a = pageOf (recordOf (holding a))
+
+-- what is claimed of two traces and the two buffers that their pages are written into
+pub record Compared (s t : Trace) (out out′ : List ℕ) : Type 0 where
+  -- the writer accepts both last records
+  pub first-accepted : writeAnswer (lastRecord s) out ≡ Accepted
+  pub second-accepted : writeAnswer (lastRecord t) out′ ≡ Accepted
+  -- 'Each page holds its own account, byte for byte by the layout.'
+  pub first-page : pageAfter s out ≡ accountPage (accountOf s)
+  pub second-page : pageAfter t out′ ≡ accountPage (accountOf t)
+  -- 'the page after the one equals the page after the other exactly when the accounts of the two histories are equal'
+  pub same-account : pageAfter s out ≡ pageAfter t out′ → accountOf s ≡ accountOf t
+  pub same-page : accountOf s ≡ accountOf t → pageAfter s out ≡ pageAfter t out′
+
+-- 'a single claim about two whole lists'; the buffers are long enough for a page
+abbrev pub Demand3 : Type 0
+Demand3 = (s t : Trace) (out out′ : List ℕ) → size ≤ length out → size ≤ length out′ → Compared s t out out′

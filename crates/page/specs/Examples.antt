@@ -1,0 +1,113 @@
+-- Two pages by hand, and a case of demand 3: document 01's worked example beside a fresh meter of its settings.
+use mathlib.Core.Path.{_≡_, refl}
+use mathlib.Core.Bool.{true}
+use mathlib.Core.List.{List, [], _∷_, _++_}
+use Prim.Native.Nat.{ℕ, _*_}
+use native.Mathlib.Omega.{arith}
+use lib.IntN.{pos}
+use lib.ListN.{replicate}
+use Rattle.events.specs.Line.{line}
+use Rattle.calls.specs.declared.Answer.the-variants.{Accepted}
+use Rattle.history.specs.Account.{Account}
+use Rattle.history.specs.Examples.{bench, benchCalls}
+use Rattle.meter.specs.Fresh.{freshOutcome, freshOf, SettingsInRange}
+use Rattle.page.specs.Layout.{size}
+use Rattle.page.specs.Demand3.{Trace, accountOf, accountPage, Compared}
+
+-- fresh accepts (5, 3000, 2, 3, 1000)
+pub bench-accepted : freshOf bench .answer ≡ Accepted
+unfolding freshOutcome
+bench-accepted = refl
+
+-- its numbers are values of their types
+pub bench-in-range : SettingsInRange bench
+bench-in-range = record { threshold = (refl, refl); clock = omega arith }
+
+-- the worked example
+abbrev pub worked : Trace
+worked =
+    record {
+      settings = bench;
+      calls = benchCalls;
+      accepted = bench-accepted;
+      settings-in-range = bench-in-range;
+      calls-in-range =
+          ((refl, refl), ((refl, refl), ((refl, refl), (tt, ((refl, refl), ((refl, refl), ((refl, refl), (tt, (tt, (omega arith, (omega arith, (omega arith, (omega arith, (tt, tt))))))))))))));
+    }
+
+-- its settings and no call
+abbrev pub unused : Trace
+unused = record { settings = bench; calls = []; accepted = bench-accepted; settings-in-range = bench-in-range; calls-in-range = tt }
+
+-- a log without lines: its count, and the zeros of 32 lines
+abbrev pub noLines : List ℕ
+noLines = replicate 161 0
+
+-- the bytes of document 01's worked example: 'Log 3 then: 65, 64, 61 at 1003; 66, 62, 59, 63 at 1006'
+abbrev pub workedBytes : List ℕ
+workedBytes =
+    -- '(32,6) (38,17) (55,4) (59,8) (67,8) (75,161) (236,161) (397,161)'
+    0 ∷ 32 ∷ 0 ∷ 6 ∷ 0 ∷ 38 ∷ 0 ∷ 17 ∷ 0 ∷ 55 ∷ 0 ∷ 4 ∷ 0 ∷ 59 ∷ 0 ∷ 8 ∷ 0 ∷ 67 ∷ 0 ∷ 8 ∷ 0 ∷ 75 ∷ 0 ∷ 161 ∷ 0 ∷ 236 ∷ 0 ∷ 161 ∷ 1 ∷ 141 ∷ 0 ∷ 161
+    -- mode 0, switch 1, two openings
+    ∷ 0 ∷ 1 ∷ 0 ∷ 0 ∷ 0 ∷ 2
+    -- threshold 3000, Over 2, Under 3, not Exceeded, Run 0
+    ∷ 0 ∷ 0 ∷ 11 ∷ 184 ∷ 0 ∷ 0 ∷ 0 ∷ 2 ∷ 0 ∷ 0 ∷ 0 ∷ 3 ∷ 0 ∷ 0 ∷ 0 ∷ 0 ∷ 0
+    -- clock 1006
+    ∷ 0 ∷ 0 ∷ 3 ∷ 238
+    -- alarms and errors, and their filters
+    ∷ 0 ∷ 0 ∷ 0 ∷ 0 ∷ 0 ∷ 0 ∷ 0 ∷ 0 ∷ 0 ∷ 0 ∷ 0 ∷ 0 ∷ 0 ∷ 0 ∷ 0 ∷ 0
+    ∷ (noLines ++ (noLines ++ (
+    7 ∷ 0 ∷ 0 ∷ 3 ∷ 235 ∷ 65 ∷ 0 ∷ 0 ∷ 3 ∷ 235 ∷ 64 ∷ 0 ∷ 0 ∷ 3 ∷ 235 ∷ 61
+    ∷ 0 ∷ 0 ∷ 3 ∷ 238 ∷ 66 ∷ 0 ∷ 0 ∷ 3 ∷ 238 ∷ 62 ∷ 0 ∷ 0 ∷ 3 ∷ 238 ∷ 59 ∷ 0 ∷ 0 ∷ 3 ∷ 238 ∷ 63
+    ∷ replicate (25 * 5) 0)))
+
+-- an account in which each field has a number of its own
+abbrev pub distinct : Account
+distinct =
+    record {
+      mode = 6;
+      switch = 2;
+      openings = 16909060;
+      threshold = pos 2147483647;
+      over = 86400;
+      under = 259;
+      exceeded = true;
+      run = 258;
+      clock = 4294967295;
+      alarms = 8451;
+      alarmFilter = 4096;
+      errors = 7937;
+      errorFilter = 2147483648;
+      logs = (line 1 4 ∷ line 2 5 ∷ []) ∷ (line 3 40 ∷ []) ∷ (line 4 65 ∷ line 4 64 ∷ line 5 255 ∷ []) ∷ [];
+    }
+
+-- its bytes
+abbrev pub distinctBytes : List ℕ
+distinctBytes =
+    -- the pairs
+    0 ∷ 32 ∷ 0 ∷ 6 ∷ 0 ∷ 38 ∷ 0 ∷ 17 ∷ 0 ∷ 55 ∷ 0 ∷ 4 ∷ 0 ∷ 59 ∷ 0 ∷ 8 ∷ 0 ∷ 67 ∷ 0 ∷ 8 ∷ 0 ∷ 75 ∷ 0 ∷ 161 ∷ 0 ∷ 236 ∷ 0 ∷ 161 ∷ 1 ∷ 141 ∷ 0 ∷ 161
+    -- mode 6, switch 2, openings
+    ∷ 6 ∷ 2 ∷ 1 ∷ 2 ∷ 3 ∷ 4
+    -- threshold, Over 86,400, Under 259, Exceeded, Run 258
+    ∷ 127 ∷ 255 ∷ 255 ∷ 255 ∷ 0 ∷ 1 ∷ 81 ∷ 128 ∷ 0 ∷ 0 ∷ 1 ∷ 3 ∷ 1 ∷ 0 ∷ 0 ∷ 1 ∷ 2
+    -- clock
+    ∷ 255 ∷ 255 ∷ 255 ∷ 255
+    -- alarms and their filter
+    ∷ 0 ∷ 0 ∷ 33 ∷ 3 ∷ 0 ∷ 0 ∷ 16 ∷ 0
+    -- errors and theirs
+    ∷ 0 ∷ 0 ∷ 31 ∷ 1 ∷ 128 ∷ 0 ∷ 0 ∷ 0
+    -- log 1: two lines
+    ∷ 2 ∷ 0 ∷ 0 ∷ 0 ∷ 1 ∷ 4 ∷ 0 ∷ 0 ∷ 0 ∷ 2 ∷ 5
+    ∷ (replicate (30 * 5) 0
+    -- log 2: one line
+    ++ (1 ∷ 0 ∷ 0 ∷ 0 ∷ 3 ∷ 40 ∷ replicate (31 * 5) 0
+    -- log 3: three lines
+    ++ (3 ∷ 0 ∷ 0 ∷ 0 ∷ 4 ∷ 65 ∷ 0 ∷ 0 ∷ 0 ∷ 4 ∷ 64 ∷ 0 ∷ 0 ∷ 0 ∷ 5 ∷ 255 ∷ replicate (29 * 5) 0)))
+
+pub record Examples : Type 0 where
+  -- the account of the worked example, in the page's layout
+  pub worked-page : accountPage (accountOf worked) ≡ workedBytes
+  -- each field stands where document 01 says, and nowhere else
+  pub distinct-page : accountPage distinct ≡ distinctBytes
+  -- two traces, each with a buffer that is long enough: what demand 3 speaks of is there
+  pub compared : Compared worked unused (replicate size 255) (replicate 600 0)
