@@ -1,0 +1,28 @@
+-- The examples, computed.
+-- Assumes nothing.
+use mathlib.Core.Path.{_≡_, refl}
+use Rattle.codec.specs.Format.{be, numAt}
+use Rattle.calls.specs.Calls.{callOf}
+use Rattle.meter.specs.Fresh.{freshOutcome}
+use Rattle.replay.specs.Replay.{callsIn, replayAnswer}
+use Rattle.replay.specs.Listing.{digits, decimal, field, lineBytes}
+use Rattle.replay.specs.Examples.{Examples}
+
+pub examples : Examples
+unfolding callsIn callOf decimal digits field lineBytes replayAnswer be numAt freshOutcome
+examples =
+    record {
+      settings = refl;
+      calls = refl;
+      no-kind = refl;
+      zero = refl;
+      largest = refl;
+      line = refl;
+      empty = refl;
+      first-cut = refl;
+      bad = refl;
+      refused = refl;
+      cut = refl;
+      small-buffer = refl;
+      taken = refl;
+    }

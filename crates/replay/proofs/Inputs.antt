@@ -1,0 +1,65 @@
+-- Demand 3 of what `replay` leaves: an input that it takes is a trace, and the buffer then begins with the page of the trace's account.
+-- Assumes nothing.
+use mathlib.Core.Path.{_≡_, refl, sym, ap, _∙_}
+use mathlib.Core.Bool.{Bool, true, false, cond}
+use mathlib.Core.List.{List}
+use Prim.Native.Nat.{ℕ}
+use native.Mathlib.Omega.{arith}
+use lib.Dec.{eqb, ltb}
+use lib.ListN.{length, drop}
+use lib.Seq.{take-at}
+use Rattle.codec.specs.Lawful.{Bytes}
+use Rattle.calls.specs.declared.Answer.{Answer}
+use Rattle.calls.specs.declared.Answer.the-variants as answer
+use Rattle.meter.specs.State.{recordOf}
+use Rattle.meter.specs.Fresh.{holding}
+use Rattle.page.specs.Layout.{size}
+use Rattle.page.specs.Demand3.{Trace, accountPage}
+use Rattle.page.proofs.RoundTrip.{page-length}
+use Rattle.page.proofs.Traces as traces
+use Rattle.replay.specs.declared.Replayed.{Replayed}
+use Rattle.replay.specs.declared.Replayed.the-variants.{Written, Empty, Bad, Short, Refused}
+use Rattle.replay.specs.Replay.{recordLength, firstIn, laterIn, settingsIn, callsIn, startOf, accountIn, unlessRefused, endOf, replayAnswer, replayed}
+use Rattle.replay.specs.Laws.{pageIn, Compared}
+use Rattle.replay.proofs.Records.{record-lawful}
+use Rattle.replay.proofs.Ranges.{settings-range}
+use Rattle.replay.proofs.Runs.{in-range}
+
+-- an input that is taken begins with an accepted fresh
+started : (empty short fresh : Bool) (a : Answer) (end : Replayed) → cond empty Empty (cond short Short (cond fresh (unlessRefused a end) Bad)) ≡ Written → a ≡ answer.Accepted
+started true short fresh a end e = let z : _≡_ {A = ℕ} 0 1 = cc in absurd (omega arith)
+started false true fresh a end e = let z : _≡_ {A = ℕ} 0 1 = cc in absurd (omega arith)
+started false false true answer.Accepted end e = refl
+started false false true (answer.Refused n) end e = let z : _≡_ {A = ℕ} 0 1 = cc in absurd (omega arith)
+started false false false a end e = let z : _≡_ {A = ℕ} 0 1 = cc in absurd (omega arith)
+
+module _ (s out : List ℕ) (bytes : Bytes s) (e : replayAnswer s out ≡ Written) where
+  accepted : startOf (firstIn s) .answer ≡ answer.Accepted
+  unfolding replayAnswer
+  accepted = started (eqb (length s) 0) (ltb (length s) recordLength) (eqb (firstIn s .kind) 0) (startOf (firstIn s) .answer) (endOf s out) e
+
+  trace : Trace
+  trace =
+      record {
+        settings = settingsIn (firstIn s);
+        calls = callsIn (laterIn s);
+        accepted = accepted;
+        settings-in-range = settings-range (firstIn s) (record-lawful .held-read s 0 bytes refl);
+        calls-in-range = in-range s bytes accepted;
+      }
+
+  page : pageIn s out ≡ accountPage (accountIn s)
+  unfolding replayed
+  page = rw e (take-at (accountPage (accountIn s)) (drop size out) size (page-length (recordOf (holding (accountIn s)))))
+
+pub compared : (s t out out′ : List ℕ) → Bytes s → Bytes t → replayAnswer s out ≡ Written → replayAnswer t out′ ≡ Written → Compared s t out out′
+unfolding trace accountIn
+compared s t out out′ bs bt es et =
+    let first = page s out bs es in
+    let second = page t out′ bt et in
+    record {
+      first-page = first;
+      second-page = second;
+      same-account = λ e. traces.same-account (trace s out bs es) (trace t out′ bt et) (sym first ∙ e ∙ second);
+      same-page = λ e. first ∙ ap accountPage e ∙ sym second;
+    }

@@ -1,0 +1,8 @@
+pub mod Records
+pub mod Ranges
+pub mod Runs
+pub mod Inputs
+pub mod Digits
+pub mod Stores
+pub mod Examples
+pub mod Laws

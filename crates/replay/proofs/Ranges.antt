@@ -1,0 +1,76 @@
+-- The numbers of records that are read from bytes are values of their types: of the fresh settings, and of every call that the records name.
+-- Assumes nothing.
+use mathlib.Core.Path.{_≡_, refl}
+use mathlib.Core.Bool.{Bool, true, false, cond}
+use mathlib.Core.List.{List, [], _∷_}
+use Prim.Native.Nat.{ℕ, _-_, _^_, _<_}
+use native.Mathlib.Omega.{arith}
+use lib.Dec.{eqb, ltb}
+use lib.IntN.{pos, negsuc}
+use borrow.Author.Tests.{ltb-true, ltb-false, le-leb}
+use Rattle.codec.specs.Format.{AllHold}
+use Rattle.calls.specs.declared.Call.{Call}
+use Rattle.calls.specs.declared.Call.the-variants.{Sample, RemoteDisconnect, RemoteReconnect, ManualDisconnect, ManualReconnect, SetMode, SetLimiter, SetClock, Event, SetAlarmFilter, SetErrorFilter, ClearAlarms, ClearErrors, ClearLog, Script}
+use Rattle.calls.specs.declared.Parsed.{Parsed}
+use Rattle.calls.specs.declared.Parsed.the-variants.{Ok, NoKind}
+use Rattle.calls.specs.Calls.{signedOf, callOf, Word, Signed, InRange, AllInRange}
+use Rattle.meter.specs.Fresh.{SettingsInRange}
+use Rattle.replay.specs.declared.Record.{Record}
+use Rattle.replay.specs.Input.{recordFormat}
+use Rattle.replay.specs.Replay.{settingsIn, parsedIn, withCall, callsIn}
+
+-- a number of four bytes is one of 32 bits, and so is its two's complement
+word : (n : ℕ) → n < 256 ^ 4 → Word n
+word n h = omega arith
+
+signed-range : (n : ℕ) → n < 256 ^ 4 → Signed (signedOf n)
+signed-range n h = go (ltb n 2147483648) refl
+  where
+    go : (b : Bool) → ltb n 2147483648 ≡ b → Signed (cond b (pos n) (negsuc (4294967295 - n)))
+    go true e = (refl, le-leb n 2147483647 (omega (arith, ltb-true n 2147483648 e)))
+    go false e = (le-leb (4294967295 - n) 2147483647 (omega (arith, ltb-false n 2147483648 e)), refl)
+
+-- what is named, if anything, is in range
+abbrev ParsedInRange : Parsed → Type 0
+ParsedInRange (Ok c) = InRange c
+ParsedInRange NoKind = Unit
+
+this-or : (b : Bool) (c : Call) (rest : Parsed) → InRange c → ParsedInRange rest → ParsedInRange (cond b (Ok c) rest)
+this-or true c rest i r = i
+this-or false c rest i r = r
+
+module _ (r : Record) (h : recordFormat .Holds r) where
+  pub settings-range : SettingsInRange (settingsIn r)
+  settings-range = record { threshold = signed-range (r .n2) (h .0 .1 .1 .0); clock = word (r .n5) (h .0 .1 .1 .1 .1 .1) }
+
+  parsed-range : ParsedInRange (parsedIn r)
+  unfolding callOf
+  parsed-range =
+      let n = word (r .n1) (h .0 .1 .0) in
+      let z = signed-range (r .n1) (h .0 .1 .0) in
+      let limits : InRange (SetLimiter (signedOf (r .n1)) (r .n2) (r .n3)) = (z, (word (r .n2) (h .0 .1 .1 .0), word (r .n3) (h .0 .1 .1 .1 .0))) in
+      this-or (eqb (r .kind) 1) (Sample (signedOf (r .n1))) _ z
+      (this-or (eqb (r .kind) 2) RemoteDisconnect _ tt
+      (this-or (eqb (r .kind) 3) RemoteReconnect _ tt
+      (this-or (eqb (r .kind) 4) ManualDisconnect _ tt
+      (this-or (eqb (r .kind) 5) ManualReconnect _ tt
+      (this-or (eqb (r .kind) 6) (SetMode (r .n1)) _ n
+      (this-or (eqb (r .kind) 7) (SetLimiter (signedOf (r .n1)) (r .n2) (r .n3)) _ limits
+      (this-or (eqb (r .kind) 8) (SetClock (r .n1)) _ n
+      (this-or (eqb (r .kind) 9) (Event (r .n1)) _ n
+      (this-or (eqb (r .kind) 10) (SetAlarmFilter (r .n1)) _ n
+      (this-or (eqb (r .kind) 11) (SetErrorFilter (r .n1)) _ n
+      (this-or (eqb (r .kind) 12) (ClearAlarms (r .n1)) _ n
+      (this-or (eqb (r .kind) 13) (ClearErrors (r .n1)) _ n
+      (this-or (eqb (r .kind) 14) (ClearLog (r .n1)) _ n
+      (this-or (eqb (r .kind) 15) (Script (r .n1)) _ n
+      tt))))))))))))))
+
+with-call : (p : Parsed) (cs : List Call) → ParsedInRange p → AllInRange cs → AllInRange (withCall p cs)
+with-call (Ok c) cs i is = (i, is)
+with-call NoKind cs i is = is
+
+pub calls-range : (rs : List Record) → AllHold recordFormat rs → AllInRange (callsIn rs)
+unfolding callsIn
+calls-range [] h = tt
+calls-range (r ∷ rs) h = with-call (parsedIn r) (callsIn rs) (parsed-range r (h .0)) (calls-range rs (h .1))

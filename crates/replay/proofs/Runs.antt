@@ -1,0 +1,152 @@
+-- A whole input: the meter after its last record holds the account of the input's history and is sound, so that the writer puts the account's
+-- page into the buffer.
+-- Assumes nothing.
+use mathlib.Core.Path.{_≡_, refl, sym, ap, _∙_}
+use mathlib.Core.Bool.{Bool, true, false, cond}
+use mathlib.Core.List.{List, [], _∷_, _++_, reverseAux}
+use Prim.Native.Nat.{ℕ, zero, suc, _+_, _-_, _*_, _/_, _%_, _<_, _≤_}
+use native.Mathlib.Omega.{arith}
+use lib.Dec.{eqb, leb, ltb}
+use lib.ListN.{length, drop}
+use Rattle.codec.specs.Format.{decs, allValid}
+use Rattle.codec.specs.Lawful.{Bytes}
+use Rattle.codec.proofs.Formats.{times-lawful}
+use Rattle.events.specs.Table.{builtIn}
+use Rattle.calls.specs.declared.Call.{Call}
+use Rattle.calls.specs.declared.Answer.{Answer}
+use Rattle.calls.specs.declared.Answer.the-variants as answer
+use Rattle.calls.specs.declared.Parsed.{Parsed}
+use Rattle.calls.specs.declared.Parsed.the-variants.{Ok, NoKind}
+use Rattle.calls.specs.Calls.{AllInRange}
+use Rattle.history.specs.Effects.{Fresh}
+use Rattle.meter.specs.declared.Meter.{Meter}
+use Rattle.meter.specs.declared.Outcome.{Outcome}
+use Rattle.meter.specs.State.{recordOf}
+use Rattle.meter.specs.Sound.{soundMeter}
+use Rattle.meter.specs.Machine.{performed, commanded}
+use Rattle.meter.specs.Fresh.{Settings, freshState, holding, recordAfter}
+use Rattle.meter.specs.Laws.{lastRecord}
+use Rattle.meter.proofs.Accepting.{fresh-laws}
+use Rattle.meter.proofs.Laws.{built-in}
+use Rattle.page.specs.Layout.{size, writeAnswer, written}
+use Rattle.page.specs.Demand3.{accountPage}
+use Rattle.replay.specs.declared.Record.{Record}
+use Rattle.replay.specs.declared.Replayed.{Replayed}
+use Rattle.replay.specs.declared.Replayed.the-variants.{Written, Refused}
+use Rattle.replay.specs.Input.{recordFormat}
+use Rattle.replay.specs.Replay.{recordLength, firstIn, laterIn, settingsIn, parsedIn, withCall, callsIn, startOf, nextOf, runFrom, lastMeter, accountIn, unlessRefused, endOf, replayAnswer, bufferAfter, replayed}
+use Rattle.replay.proofs.Records.{record-lawful}
+use Rattle.replay.proofs.Ranges.{settings-range, calls-range}
+
+-- ---- the loop over the records: of n records, the one at i, then those from i + 1 on, until there are no more
+
+pub next-record : (m : Meter) (s : List ℕ) (n i : ℕ) → i < n
+    → runFrom (nextOf m (recordFormat .dec s (i * 21)) .meter) (decs recordFormat (n - (i + 1)) s ((i + 1) * 21))
+    ≡ runFrom m (decs recordFormat (n - i) s (i * 21))
+unfolding runFrom
+next-record m s n i h =
+    let one : n - i ≡ suc (n - (i + 1)) = omega arith in
+    let at : (i + 1) * 21 ≡ i * 21 + 21 = omega arith in
+    rw (one, at)
+
+pub no-record : (m : Meter) (s : List ℕ) (n i : ℕ) → n ≤ i → runFrom m (decs recordFormat (n - i) s (i * 21)) ≡ m
+unfolding runFrom
+no-record m s n i h =
+    let none : n - i ≡ 0 = omega arith in
+    rw none
+
+-- ---- the machine's run is that of the calls which the records name
+
+-- behind the calls cs, newest first
+run-calls : (f : Fresh) (rs : List Record) (cs : List Call)
+    → runFrom (recordAfter builtIn f cs) rs ≡ recordAfter builtIn f (reverseAux (callsIn rs) cs)
+unfolding runFrom callsIn commanded recordAfter
+run-calls f [] cs = refl
+run-calls f (r ∷ rs) cs = go (parsedIn r) (run-calls f rs)
+  where
+    go : (p : Parsed) → ((cs : List Call) → runFrom (recordAfter builtIn f cs) rs ≡ recordAfter builtIn f (reverseAux (callsIn rs) cs))
+        → runFrom (performed builtIn (recordAfter builtIn f cs) p .meter) rs
+        ≡ recordAfter builtIn f (reverseAux (withCall p (callsIn rs)) cs)
+    go (Ok c) rest = rest (c ∷ cs)
+    go NoKind rest = rest cs
+
+run-fresh : (f : Fresh) (rs : List Record) → runFrom (recordOf (freshState f)) rs ≡ lastRecord builtIn f (callsIn rs)
+unfolding recordAfter
+run-fresh f rs = run-calls f rs []
+
+-- any bytes are those of records
+all-valid : (n : ℕ) (s : List ℕ) (at : ℕ) → allValid recordFormat n s at ≡ true
+all-valid zero s at = refl
+all-valid (suc n) s at = all-valid n s (at + recordLength)
+
+module _ (s : List ℕ) (bytes : Bytes s) (started : startOf (firstIn s) .answer ≡ answer.Accepted) where
+  settings : Settings (settingsIn (firstIn s))
+  settings =
+      fresh-laws .accepted-settings (settingsIn (firstIn s)) (settings-range (firstIn s) (record-lawful .held-read s 0 bytes refl)) started
+
+  pub in-range : AllInRange (callsIn (laterIn s))
+  in-range =
+      let n = length s / recordLength - 1 in
+      calls-range (laterIn s) (times-lawful record-lawful n .held-read s recordLength bytes (all-valid n s recordLength) .1)
+
+  by-calls : lastMeter s ≡ lastRecord builtIn (settingsIn (firstIn s)) (callsIn (laterIn s))
+  by-calls =
+      ap (λ (m : Meter). runFrom m (laterIn s)) (fresh-laws .accepted-meter (settingsIn (firstIn s)) started)
+      ∙ run-fresh (settingsIn (firstIn s)) (laterIn s)
+
+  pub holds-account : lastMeter s ≡ recordOf (holding (accountIn s))
+  unfolding accountIn
+  holds-account = by-calls ∙ built-in .simulates (settingsIn (firstIn s)) (callsIn (laterIn s)) settings in-range
+
+  last-sound : soundMeter builtIn (lastMeter s) ≡ true
+  last-sound =
+      ap (soundMeter builtIn) by-calls ∙ built-in .reached-sound (settingsIn (firstIn s)) (callsIn (laterIn s)) settings in-range
+
+  -- ---- so the writer answers and writes what becomes of the input
+
+  module _ (out : List ℕ) (whole : eqb (length s % recordLength) 0 ≡ true) where
+    writer-answer : unlessRefused (writeAnswer (lastMeter s) out) Written ≡ endOf s out
+    unfolding writeAnswer
+    writer-answer = rw (last-sound, whole) (go (leb size (length out)))
+      where
+        go : (b : Bool) → unlessRefused (cond b answer.Accepted (answer.Refused 8)) Written ≡ cond b Written (Refused 8)
+        go true = refl
+        go false = refl
+
+    writer-page : written (lastMeter s) out ≡ bufferAfter (endOf s out) (accountPage (accountIn s)) out
+    unfolding written
+    writer-page = rw (last-sound, whole, holds-account) (go (leb size (length out)) (accountPage (accountIn s)))
+      where
+        go : (b : Bool) (page : List ℕ) → cond b (page ++ drop size out) out ≡ bufferAfter (cond b Written (Refused 8)) page out
+        go true page = refl
+        go false page = refl
+
+-- ---- what becomes of an input, as the code comes to it
+
+-- the answer gives the bytes
+pub with-bytes : (s out : List ℕ) (a : Replayed) → replayAnswer s out ≡ a
+    → (a ≡ replayAnswer s out) × (bufferAfter a (accountPage (accountIn s)) out ≡ replayed s out)
+unfolding replayed
+with-bytes s out a e = (sym e, rw e)
+
+-- the input begins with a whole record of kind 0, whose outcome is o
+pub record Begun (s out : List ℕ) (o : Outcome) : Type 0 where
+  pub start : o ≡ startOf (firstIn s)
+  pub answer : replayAnswer s out ≡ unlessRefused (o .answer) (endOf s out)
+
+pub begun : (s out : List ℕ) (o : Outcome) → eqb (length s) 0 ≡ false → ltb (length s) recordLength ≡ false → eqb (firstIn s .kind) 0 ≡ true
+    → o ≡ startOf (firstIn s) → Begun s out o
+unfolding replayAnswer
+begun s out o some whole fresh e = record { start = e; answer = rw (some, whole, fresh, e) }
+
+-- fresh is accepted, and the writer was given the meter m after whole records
+module _ {s out : List ℕ} {o : Outcome} (b : Begun s out o) (bytes : Bytes s) (accepted : o .answer ≡ answer.Accepted) (whole : eqb (length s % recordLength) 0 ≡ true) where
+  pub ended : (m : Meter) (a : Answer) (page : List ℕ) → m ≡ runFrom (o .meter) (laterIn s) → (a ≡ writeAnswer m out) × (page ≡ written m out)
+      → (unlessRefused a Written ≡ replayAnswer s out) × (page ≡ replayed s out)
+  ended m a page run wrote =
+      let started : startOf (firstIn s) .answer ≡ answer.Accepted = sym (ap (λ (o : Outcome). o .answer) (b .start)) ∙ accepted in
+      let last : m ≡ lastMeter s = run ∙ ap (λ (o : Outcome). runFrom (o .meter) (laterIn s)) (b .start) in
+      let end = with-bytes s out (endOf s out) (b .answer ∙ rw accepted) in (
+        rw (wrote .0, last) (writer-answer s bytes started out whole) ∙ end .0,
+        wrote .1 ∙ rw last (writer-page s bytes started out whole) ∙ end .1,
+      )

@@ -1,0 +1,144 @@
+use mathlib.Core.Path.{_≡_, _∙_, ap, sym}
+use mathlib.Core.Bool.{false}
+use mathlib.Core.List.{List}
+use Prim.Native.Nat.{ℕ}
+use native.Mathlib.Omega.{arith}
+use lib.Dec.{eqb, ltb}
+use lib.ListN.{length}
+use borrow.Author.Needs.{needs}
+use borrow.Author.Tests.{eq-eqb, ne-eqb, lt-ltb, le-ltb}
+use Rattle.replay.specs.declared.Record.{Record}
+use Rattle.replay.specs.declared.Replayed.the-variants.{Written, Empty, Bad, Short, Refused}
+use Rattle.replay.specs.Replay.{recordLength, firstIn, startOf, unlessRefused, replayAnswer, replayed}
+use Rattle.replay.proofs.Runs.{with-bytes, Begun, begun, ended}
+use Rattle.replay.proofs.replay.Statement.{statement}
+use Rattle.replay.proofs.replay.Tie as tie
+
+-- the input and the buffer, as they came
+abbrev input : tie.Start → List ℕ
+input c = c .args .records .now
+
+abbrev buffer : tie.Start → List ℕ
+buffer c = c .args .page .now
+
+-- the function's start, from later places
+abbrev start1 : tie.Else1 → tie.Start
+start1 c = c .before .before .before
+
+abbrev start-of-first : tie.After-record-at → tie.Start
+start-of-first c = start1 (c .before .before)
+
+abbrev start-of-fresh : tie.After-start → tie.Start
+start-of-fresh c = start-of-first (c .before .before .before)
+
+abbrev start-of-page : tie.After-write-page → tie.Start
+start-of-page c = start-of-fresh (c .before .before .before .before .before .before)
+
+-- what the tests before a place have shown
+some : (c : tie.Else1) → eqb (length (input (start1 c))) 0 ≡ false
+some c = ne-eqb _ _ (c .if1 .left)
+
+first-whole : (c : tie.Else2) → ltb (length (input (start1 (c .before)))) recordLength ≡ false
+first-whole c = le-ltb _ _ (c .if2 .left)
+
+kind-read : (c : tie.After-record-at) → c .record-at .result .kind ≡ firstIn (input (start-of-first c)) .kind
+kind-read c = ap (λ (r : Record). r .kind) (c .record-at .ensures)
+
+begins : (c : tie.After-start) → Begun (input (start-of-fresh c)) (buffer (start-of-fresh c)) (c .start .result)
+begins c =
+    let first = c .before .before .before in
+    begun _ _ _ (some (first .before .before)) (first-whole (first .before))
+    (eq-eqb _ _ (sym (kind-read first) ∙ c .before .if3 .left))
+    (c .start .ensures ∙ ap startOf (first .record-at .ensures))
+
+page-written : (c : tie.After-write-page)
+    → (unlessRefused (c .write-page .result) Written ≡ replayAnswer (input (start-of-page c)) (buffer (start-of-page c)))
+    × (c .write-page .last .1 .0 ≡ replayed (input (start-of-page c)) (buffer (start-of-page c)))
+page-written c =
+    let run = c .before .before in
+    let whole = run .before in
+    let fresh = whole .before .before .before in
+    let known = fresh .before .before .before .before .before .before .before in
+    ended (begins fresh) (λ i. omega (arith, known .shared-slice-known .given i)) (whole .before .enum-told .given .1) (eq-eqb _ _ (whole .if4 .left))
+    (run .run .result) (c .write-page .result) (c .write-page .last .1 .0) (run .run .ensures) (c .write-page .ensures)
+
+returns : tie.Need-returns
+unfolding replayAnswer
+returns c = with-bytes _ _ Empty (rw (eq-eqb _ _ (c .if1 .taken)))
+
+returns-2 : tie.Need-returns-2
+unfolding replayAnswer
+returns-2 c = with-bytes _ _ Short (rw (some (c .before), lt-ltb _ _ (c .if2 .taken)))
+
+record-at-requires : tie.Need-record-at-requires
+record-at-requires c κs = search needs
+
+returns-3 : tie.Need-returns-3
+unfolding replayAnswer
+returns-3 c =
+    let first = c .before .before in
+    let other = rw (kind-read first) at (ne-eqb _ _ (c .if3 .taken)) in
+    with-bytes _ _ Bad (rw (some (first .before .before), first-whole (first .before), other))
+
+start-requires : tie.Need-start-requires
+start-requires c κs = search needs
+
+enum-known-answer : tie.Need-enum-known-answer
+enum-known-answer c = search needs
+
+returns-4 : tie.Need-returns-4
+returns-4 c = with-bytes _ _ (Refused _) (begins (c .before .before .before) .answer ∙ rw (c .before .answer .given .1))
+
+enum-told : tie.Need-enum-told
+enum-told c = search needs
+
+returns-5 : tie.Need-returns-5
+returns-5 c =
+    with-bytes _ _ Short
+    (begins (c .before .before .before) .answer ∙ rw (c .before .enum-told .given .1, ne-eqb _ _ (c .if4 .taken)))
+
+run-requires : tie.Need-run-requires
+run-requires c κs = search needs
+
+write-page-requires : tie.Need-write-page-requires
+write-page-requires c κs = search needs
+
+enum-told-2 : tie.Need-enum-told-2
+enum-told-2 c = search needs
+
+enum-known-written : tie.Need-enum-known-written
+enum-known-written c = search needs
+
+same-length : tie.Need-same-length
+same-length c = search needs
+
+returns-6 : tie.Need-returns-6
+returns-6 c = rw (c .enum-told2 .given .1) at (page-written (c .before .before .before .before))
+
+same-length-2 : tie.Need-same-length-2
+same-length-2 c = search needs
+
+returns-7 : tie.Need-returns-7
+returns-7 c = rw (c .before .written .given .1) at (page-written (c .before .before .before .before .before))
+
+pub replay-spec : {M : Type 1} → statement M
+replay-spec =
+    tie.close
+    (tie.spec
+    returns
+    returns-2
+    record-at-requires
+    returns-3
+    start-requires
+    enum-known-answer
+    returns-4
+    enum-told
+    returns-5
+    run-requires
+    write-page-requires
+    enum-told-2
+    enum-known-written
+    same-length
+    returns-6
+    same-length-2
+    returns-7)

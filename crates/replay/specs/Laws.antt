@@ -1,0 +1,49 @@
+-- What holds of the input's records, of its run and of the listing's lines: what a reader wants beside the definitions.
+use mathlib.Core.Path.{_≡_}
+use mathlib.Core.List.{List, [], _∷_, _++_}
+use Prim.Native.Nat.{ℕ, _/_, _%_, _^_, _<_, _≤_}
+use lib.ListN.{length, take, drop}
+use Rattle.codec.specs.Format.{encs, AllHold}
+use Rattle.codec.specs.Lawful.{Bytes, Lawful}
+use Rattle.calls.specs.declared.Answer.the-variants.{Accepted}
+use Rattle.meter.specs.State.{recordOf}
+use Rattle.meter.specs.Fresh.{holding}
+use Rattle.page.specs.Layout.{size}
+use Rattle.page.specs.Demand3.{accountPage}
+use Rattle.replay.specs.declared.Record.{Record}
+use Rattle.replay.specs.declared.Replayed.the-variants.{Written}
+use Rattle.replay.specs.Input.{recordFormat}
+use Rattle.replay.specs.Replay.{firstIn, laterIn, startOf, lastMeter, accountIn, replayAnswer, replayed}
+use Rattle.replay.specs.Listing.{digit, decimal, valueBehind, lineBytes, atEnd}
+
+-- the page that `replay` leaves in the buffer
+abbrev pub pageIn : List ℕ → List ℕ → List ℕ
+pageIn s out = take size (replayed s out)
+
+-- demand 3 of two inputs that `replay` took, each with its buffer
+pub record Compared (s t out out′ : List ℕ) : Type 0 where
+  pub first-page : pageIn s out ≡ accountPage (accountIn s)
+  pub second-page : pageIn t out′ ≡ accountPage (accountIn t)
+  pub same-account : pageIn s out ≡ pageIn t out′ → accountIn s ≡ accountIn t
+  pub same-page : accountIn s ≡ accountIn t → pageIn s out ≡ pageIn t out′
+
+pub record Laws : Type 0 where
+  -- a record is 21 bytes wide, and what is written as one is read back
+  pub record-width : recordFormat .width ≡ 21
+  pub record-lawful : Lawful recordFormat
+  -- an input's records are read as they were written: the first, and those after it
+  pub first-read : (r : Record) (rs : List Record) → AllHold recordFormat (r ∷ rs) → firstIn (encs recordFormat (r ∷ rs)) ≡ r
+  pub later-read : (r : Record) (rs : List Record) → AllHold recordFormat (r ∷ rs) → laterIn (encs recordFormat (r ∷ rs)) ≡ rs
+  -- the meter that the machine reaches record by record, from an accepted fresh, holds the account of the history
+  pub account-held : (s : List ℕ) → Bytes s → startOf (firstIn s) .answer ≡ Accepted → lastMeter s ≡ recordOf (holding (accountIn s))
+  -- 'the page after the one equals the page after the other exactly when the accounts of the two histories are equal', from bytes to page
+  pub compared : (s t out out′ : List ℕ) → Bytes s → Bytes t → replayAnswer s out ≡ Written → replayAnswer t out′ ≡ Written → Compared s t out out′
+  -- the digits of a number: itself below ten; else those of its quotient by ten, and the remainder's behind them
+  pub one-digit : (n : ℕ) → n < 10 → decimal n ≡ digit n ∷ []
+  pub more-digits : (n : ℕ) → 10 ≤ n → decimal n ≡ decimal (n / 10) ++ (digit (n % 10) ∷ [])
+  -- a number is the value of its digits
+  pub decimal-value : (n : ℕ) → valueBehind 0 (decimal n) ≡ n
+  -- the bytes of a line, from its start on, are all of it; and 40 places hold any line
+  pub line-shown : (xs : List ℕ) → drop (atEnd xs .start) (atEnd xs .bytes) ≡ xs
+  pub line-fits : (position refusal switch openings : ℕ) → position < 2 ^ 64 → refusal < 2 ^ 8 → switch < 2 ^ 8 → openings < 2 ^ 32
+      → length (lineBytes position refusal switch openings) ≤ 40

@@ -1,0 +1,5 @@
+pub mod Input
+pub mod Replay
+pub mod Listing
+pub mod Laws
+pub mod Examples

@@ -1,0 +1,111 @@
+-- A whole input of the bench program: the calls that its records name, what becomes of it, and the page of its history.
+use mathlib.Core.Bool.{cond}
+use mathlib.Core.List.{List, [], _∷_, _++_}
+use Prim.Native.Nat.{ℕ, _-_, _/_, _%_}
+use lib.Dec.{eqb, leb, ltb}
+use lib.ListN.{length, drop}
+use Rattle.codec.specs.Format.{decs}
+use Rattle.events.specs.Table.{builtIn}
+use Rattle.calls.specs.declared.Call.{Call}
+use Rattle.calls.specs.declared.Answer.{Answer}
+use Rattle.calls.specs.declared.Answer.the-variants as answer
+use Rattle.calls.specs.declared.Parsed.{Parsed}
+use Rattle.calls.specs.declared.Parsed.the-variants.{Ok, NoKind}
+use Rattle.calls.specs.Calls.{signedOf, callOf}
+use Rattle.history.specs.Effects.{Fresh}
+use Rattle.history.specs.Account.{Account, account}
+use Rattle.meter.specs.declared.Meter.{Meter}
+use Rattle.meter.specs.declared.Outcome.{Outcome}
+use Rattle.meter.specs.Machine.{commanded}
+use Rattle.meter.specs.Fresh.{settingsOf, freshOf}
+use Rattle.page.specs.Layout.{size}
+use Rattle.page.specs.Demand3.{accountPage}
+use Rattle.replay.specs.declared.Record.{Record}
+use Rattle.replay.specs.declared.Replayed.{Replayed}
+use Rattle.replay.specs.declared.Replayed.the-variants.{Written, Empty, Bad, Short, Refused}
+use Rattle.replay.specs.Input.{recordFormat}
+
+-- ---- the records of an input
+
+-- 'records of 21 bytes'
+abbrev pub recordLength : ℕ
+recordLength = recordFormat .width
+
+-- 'The first ..'
+abbrev pub firstIn : List ℕ → Record
+firstIn s = recordFormat .dec s 0
+
+-- the whole records after the first, in order
+abbrev pub laterIn : List ℕ → List Record
+laterIn s = decs recordFormat (length s / recordLength - 1) s recordLength
+
+-- 'Fresh takes mode, threshold, Over, Under, clock'; 'a sample or threshold is two's complement'
+abbrev pub settingsIn : Record → Fresh
+settingsIn r = settingsOf (r .n1) (signedOf (r .n2)) (r .n3) (r .n4) (r .n5)
+
+-- what a record's kind and numbers name
+abbrev pub parsedIn : Record → Parsed
+parsedIn r = callOf (r .kind) (r .n1) (r .n2) (r .n3) (r .n4) (r .n5)
+
+-- 'kind | 13 | not 1–15; the command's reading fails before the record is touched': such a record adds no call
+abbrev pub withCall : Parsed → List Call → List Call
+withCall (Ok c) cs = c ∷ cs
+withCall NoKind cs = cs
+
+-- the calls that records name, in order
+unfoldable pub callsIn : List Record → List Call
+callsIn [] = []
+callsIn (r ∷ rs) = withCall (parsedIn r) (callsIn rs)
+
+-- ---- the records, one by one
+
+-- 'The first has kind 0 and is fresh': what it makes, if it has kind 0
+abbrev pub startOf : Record → Outcome
+startOf r = freshOf (settingsIn r)
+
+-- 'each next one the record that the call before handed back': a later record on a meter
+abbrev pub nextOf : Meter → Record → Outcome
+nextOf m r = commanded builtIn m (r .kind) (r .n1) (r .n2) (r .n3) (r .n4) (r .n5)
+
+-- the meter after some records, by the machine
+unfoldable pub runFrom : Meter → List Record → Meter
+runFrom m [] = m
+runFrom m (r ∷ rs) = runFrom (nextOf m r .meter) rs
+
+-- the meter after the last record, by the machine
+abbrev pub lastMeter : List ℕ → Meter
+lastMeter s = runFrom (startOf (firstIn s) .meter) (laterIn s)
+
+-- ---- the whole input
+
+-- 'Drawn from the list and its fresh settings without running the machine': the account of the input's history
+unfoldable pub accountIn : List ℕ → Account
+accountIn s = account builtIn (settingsIn (firstIn s)) (callsIn (laterIn s))
+
+-- a refusal, or else what follows
+abbrev pub unlessRefused : Answer → Replayed → Replayed
+unlessRefused answer.Accepted r = r
+unlessRefused (answer.Refused n) r = Refused n
+
+-- once fresh is accepted: 'a cut record .. writes `short` and ends'; 'writer | 8 | buffer under 558 bytes'
+abbrev pub endOf : List ℕ → List ℕ → Replayed
+endOf s out = cond (eqb (length s % recordLength) 0) (cond (leb size (length out)) Written (Refused 8)) Short
+
+-- 'Empty input writes nothing'; 'a cut record, the first too, writes `short`'; 'kind 0 .., else one line `bad`'; 'A refused fresh ends the run'
+unfoldable pub replayAnswer : List ℕ → List ℕ → Replayed
+replayAnswer s out =
+    cond (eqb (length s) 0) Empty
+    (cond (ltb (length s) recordLength) Short
+    (cond (eqb (firstIn s .kind) 0) (unlessRefused (startOf (firstIn s) .answer) (endOf s out)) Bad))
+
+-- 'The writer leaves bytes past 558'; whatever else becomes of an input leaves every byte
+abbrev pub bufferAfter : Replayed → List ℕ → List ℕ → List ℕ
+bufferAfter Written page out = page ++ drop size out
+bufferAfter Empty page out = out
+bufferAfter Bad page out = out
+bufferAfter Short page out = out
+bufferAfter (Refused n) page out = out
+
+-- 'Each page holds its own account, byte for byte by the layout'
+unfoldable pub replayed : List ℕ → List ℕ → List ℕ
+replayed s out = bufferAfter (replayAnswer s out) (accountPage (accountIn s)) out

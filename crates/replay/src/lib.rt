@@ -1,0 +1,81 @@
+// The bench program's work, but for reading and writing: the records of its input, the meter that they
+// drive, the lines of its listing; and a whole input at once, from its bytes to the page.
+ghost use mathlib.Core.Path.{_≡_};
+ghost use Rattle.replay.specs.Replay.{replayAnswer, replayed};
+
+mod input;
+mod listing;
+mod run;
+
+use calls::Answer;
+pub use input::record_at;
+pub use listing::line_of;
+pub use run::next;
+pub use run::start;
+
+// A record of the input: the kind of a call, 0 for fresh, and the numbers that it takes.
+pub struct Record {
+    pub kind: u8,
+    pub n1: u32,
+    pub n2: u32,
+    pub n3: u32,
+    pub n4: u32,
+    pub n5: u32,
+}
+
+// Its length in bytes.
+pub const RECORD_LEN: usize = 21;
+
+// A line of the listing: the bytes from `start` to the end. Digits come out of a number from the last
+// to the first, so that a line is made from its end. Four numbers of at most 20, 3, 3 and 10 digits,
+// each with a byte behind it, are 40 bytes.
+pub struct Line {
+    pub bytes: [u8; 40],
+    pub start: usize,
+}
+
+// What became of an input.
+pub enum Replayed {
+    // The page of its history is written.
+    Written,
+    Empty,
+    // The first record is not of kind 0.
+    Bad,
+    // A record is cut short.
+    Short,
+    // Fresh refused with this number, or the page's writer did.
+    Refused(u8),
+}
+
+// Runs a whole input and writes the page of its history into the first 558 bytes of `page`. Every
+// byte of `page` stays where the answer is not Written.
+pub fn replay(records: &[u8], page: &mut [u8]) -> Replayed
+    ensures { λ r. ⌜ (r ≡ replayAnswer (now (records .entry)) (now (page .entry))) × (now (page .exit) ≡ replayed (now (records .entry)) (now (page .entry))) ⌝ }
+{
+    if records.len() == 0 {
+        return Replayed::Empty;
+    }
+    if records.len() < RECORD_LEN {
+        return Replayed::Short;
+    }
+    let first = input::record_at(records, 0);
+    if first.kind != 0 {
+        return Replayed::Bad;
+    }
+    let fresh = run::start(first);
+    let answer = fresh.answer;
+    if let Answer::Refused(number) = answer {
+        return Replayed::Refused(number);
+    }
+    // A refused fresh ends the run before it comes to a cut record: this test stands behind it.
+    if records.len() % RECORD_LEN != 0 {
+        return Replayed::Short;
+    }
+    let last = run::run(fresh.meter, records);
+    let written = page::write_page(last, page);
+    match written {
+        Answer::Accepted => Replayed::Written,
+        // Only a short buffer: whatever the calls were, they leave the meter sound.
+        Answer::Refused(number) => Replayed::Refused(number),
+    }
+}
