@@ -1,0 +1,77 @@
+-- A block's lines put one by one: what is in the text, and what the records that are left will add to it.
+-- Assumes nothing.
+use mathlib.Core.Path.{_≡_, refl, sym, ap, _∙_}
+use mathlib.Core.List.{List, [], _∷_, _++_}
+use Prim.Native.Nat.{ℕ, suc, _+_, _-_, _*_, _<_, _≤_}
+use native.Mathlib.Omega.{arith}
+use lib.ListN.{length, length-append}
+use lib.Seq.{sets, length-sets}
+use Rattle.codec.specs.Format.{Format, decs}
+use Rattle.codec.proofs.Stores.{sets-then}
+use Rattle.meter.specs.declared.Meter.{Meter}
+use Rattle.meter.specs.declared.Outcome.{Outcome}
+use Rattle.replay.specs.declared.Line.{Line}
+use Rattle.replay.specs.declared.Record.{Record}
+use Rattle.replay.specs.Replay.{nextOf, runFrom}
+use Rattle.replay.specs.Listing.{lineOf}
+use Rattle.listing.specs.Lines.{shown, linesFrom}
+
+-- of n records, those from the one at i on
+module _ (F : Format Record) (n : ℕ) (s : List ℕ) where
+  abbrev pub restAt : ℕ → List Record
+  restAt i = decs F (n - i) s (i * F .width)
+
+  pub rest-first : restAt 0 ≡ decs F n s 0
+  rest-first =
+      let whole : n - 0 ≡ n = omega arith in
+      let start : 0 * F .width ≡ 0 = omega arith in
+      rw (whole, start)
+
+  pub rest-next : (i : ℕ) → i < n → restAt i ≡ F .dec s (i * F .width) ∷ restAt (i + 1)
+  rest-next i h =
+      let more : n - i ≡ suc (n - (i + 1)) = omega arith in
+      let place : (i + 1) * F .width ≡ i * F .width + F .width = omega arith in
+      rw (more, place)
+
+  pub rest-end : (i : ℕ) → n ≤ i → restAt i ≡ []
+  rest-end i h =
+      let none : n - i ≡ 0 = omega arith in
+      rw none
+
+module _ (text₀ : List ℕ) (position : ℕ) (m₀ : Meter) (all : List Record) where
+  -- the lines of i records are put: with those of the rest, the text will be as with all of them
+  pub record Listing (text : List ℕ) (m : Meter) (len i : ℕ) (rest : List Record) : Type 0 where
+    pub size : length text ≡ length text₀
+    pub room : len ≤ 40 * i
+    pub meter : runFrom m rest ≡ runFrom m₀ all
+    pub count : len + length (linesFrom (position + i) m rest) ≡ length (linesFrom position m₀ all)
+    pub bytes : sets text len (linesFrom (position + i) m rest) ≡ sets text₀ 0 (linesFrom position m₀ all)
+
+  pub none-listed : Listing text₀ m₀ 0 0 all
+  none-listed =
+      let first : position + 0 ≡ position = omega arith in
+      record { size = refl; room = omega arith; meter = refl; count = rw first (omega arith); bytes = rw first }
+
+  pub one-listed : {text : List ℕ} {m : Meter} {len i : ℕ} {r : Record} {rest : List Record} → Listing text m len i (r ∷ rest)
+      → {o : Outcome} {line : Line} {text′ : List ℕ} {len′ : ℕ} → o ≡ nextOf m r → line ≡ lineOf (position + i) o
+      → (len′ ≡ len + length (shown line)) × (text′ ≡ sets text len (shown line)) → len′ ≤ len + 40
+      → Listing text′ (o .meter) len′ (i + 1) rest
+  unfolding linesFrom runFrom
+  one-listed {text} {m} {len} {i} {r} {rest} h {o} {line} {text′} {len′} made drawn put most =
+      let after : Outcome → List ℕ = λ n. linesFrom (position + i + 1) (n .meter) rest in
+      let next : position + (i + 1) ≡ position + i + 1 = omega arith in
+      let lines : linesFrom (position + i) m (r ∷ rest) ≡ shown line ++ after o = rw (drawn, made) in
+      record {
+        size = ap length (put .1) ∙ length-sets text len (shown line) ∙ h .size;
+        room = omega (arith, h .room);
+        meter = ap (λ (n : Outcome). runFrom (n .meter) rest) made ∙ h .meter;
+        count = rw next (omega (arith, h .count, put .0, ap length lines, length-append (shown line) (after o)));
+        bytes =
+            rw (next, put .1)
+            (sets-then text len (shown line) (after o) len′ (put .0) ∙ ap (sets text len) (sym lines) ∙ h .bytes);
+      }
+
+  pub all-listed : {text : List ℕ} {m : Meter} {len i : ℕ} → Listing text m len i []
+      → (m ≡ runFrom m₀ all) × ((len ≡ length (linesFrom position m₀ all)) × (text ≡ sets text₀ 0 (linesFrom position m₀ all)))
+  unfolding linesFrom runFrom
+  all-listed h = (h .meter, (omega (arith, h .count), h .bytes))

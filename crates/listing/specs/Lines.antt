@@ -1,0 +1,29 @@
+-- The lines of some records, one behind the other: 'Per record a line: position from 1, refusal or 0, switch, openings.'
+use mathlib.Core.List.{List, [], _∷_, _++_}
+use Prim.Native.Nat.{ℕ, _+_, _/_}
+use lib.ListN.{length, drop}
+use Rattle.codec.specs.Format.{decs}
+use Rattle.meter.specs.declared.Meter.{Meter}
+use Rattle.replay.specs.declared.Line.{Line}
+use Rattle.replay.specs.declared.Record.{Record}
+use Rattle.replay.specs.Input.{recordFormat}
+use Rattle.replay.specs.Replay.{recordLength, nextOf}
+use Rattle.replay.specs.Listing.{lineOf}
+
+-- the bytes of a line
+abbrev pub shown : Line → List ℕ
+shown line = drop (line .start) (line .bytes)
+
+-- 'Per record a line': those of records on a meter, the first of them at a position
+unfoldable pub linesFrom : ℕ → Meter → List Record → List ℕ
+linesFrom position m [] = []
+linesFrom position m (r ∷ rs) =
+    shown (lineOf position (nextOf m r)) ++ linesFrom (position + 1) (nextOf m r .meter) rs
+
+-- 'records of 21 bytes': the whole ones in some bytes
+abbrev pub recordsIn : List ℕ → List Record
+recordsIn s = decs recordFormat (length s / recordLength) s 0
+
+-- the lines of those, on a meter, the first at a position
+abbrev pub linesIn : ℕ → Meter → List ℕ → List ℕ
+linesIn position m s = linesFrom position m (recordsIn s)

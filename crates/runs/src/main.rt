@@ -1,0 +1,82 @@
+// Runs of the meter, one for each file that an argument names: the name, the listing of the file's
+// records, and the page that they leave, an area to a line.
+use libc::STDOUT_FILENO;
+use replay::Replayed;
+
+fn print(text: &[u8]) {
+    io::write_all(STDOUT_FILENO, text);
+}
+
+fn end_line() {
+    print(b"\n");
+}
+
+fn print_byte(byte: u8) {
+    io::print_hex(STDOUT_FILENO, byte as u64, 2);
+}
+
+// Writes the bytes of an area as one line of hexadecimal digits.
+fn print_area(area: &[u8]) {
+    let mut i = 0;
+    while i < area.len() {
+        print_byte(area[i]);
+        i += 1;
+    }
+    end_line();
+}
+
+// The directory, and the eight areas.
+fn print_page(page: [u8; 558]) {
+    print_area(&page[0..32]);
+    print_area(&page[32..38]);
+    print_area(&page[38..55]);
+    print_area(&page[55..59]);
+    print_area(&page[59..67]);
+    print_area(&page[67..75]);
+    print_area(&page[75..236]);
+    print_area(&page[236..397]);
+    print_area(&page[397..558]);
+}
+
+// The page of the whole file, if it is one that leaves a page. A file that does not fit the buffer
+// counts as cut: 65,536 is no multiple of a record's 21 bytes.
+fn print_last_page(file: i32) {
+    let mut records = io::large_buffer();
+    let mut page = [0u8; 558];
+    let got = io::read_full(file, &mut records);
+    let replayed = replay::replay(&records[..got], &mut page);
+    if let Replayed::Written = replayed {
+        print_page(page);
+    }
+}
+
+// The file is opened twice: the listing reads it block by block, the replay as a whole.
+fn print_run(name: &[u8]) {
+    print(name);
+    end_line();
+    let file = os::open_read(name);
+    if file < 0 {
+        print(b"missing\n");
+        return;
+    }
+    listing::print_listing(file, STDOUT_FILENO);
+    libc::close(file);
+    let again = os::open_read(name);
+    print_last_page(again);
+    libc::close(again);
+}
+
+fn print_argument(i: usize) {
+    let mut name = io::buffer();
+    let length = os::arg(i, &mut name);
+    print_run(&name[..length]);
+}
+
+fn main() {
+    let count = os::arg_count();
+    let mut i = 1;
+    while i < count {
+        print_argument(i);
+        i += 1;
+    }
+}
