@@ -3,7 +3,7 @@
 use mathlib.Core.Path.{_≡_, refl}
 use mathlib.Core.Bool.{Bool, true, false, not, _&&_, cond}
 use mathlib.Core.List.{List, [], _∷_, _++_, map}
-use Prim.Native.Nat.{ℕ, zero, suc, _-_, _<_, _≤_, _^_}
+use Prim.Native.Nat.{ℕ, zero, suc, _-_, _<_, _^_}
 use native.Mathlib.Omega.{arith}
 use lib.Dec.{eqb, leb, ltb}
 use lib.ListN.{length, getD, replicate}
@@ -16,31 +16,26 @@ use Rattle.codec.proofs.Numbers.{pow-pos}
 use Rattle.events.specs.Line.{Line, line, isLog, newest}
 use Rattle.events.specs.Table.{Row, position, lawful, builtIn}
 use Rattle.events.proofs.Rule.{built-in-lawful}
-use Rattle.control.specs.declared.Control.{Control}
-use Rattle.control.specs.Control.{soundControl}
-use Rattle.limiter.specs.declared.Limiter.{Limiter}
-use Rattle.limiter.specs.Limiter.{isThreshold, isDuration, awaited, soundSettings, soundLimiter}
 use Rattle.logs.specs.Layout.{clockOf as lineClock, codeOf, padded, flat, laid}
 use Rattle.logs.proofs.Places.{Short, none as noLog, more as moreLogs}
 use Rattle.logs.proofs.Kept.{lists-short}
 use Rattle.calls.specs.declared.Call.{Call}
 use Rattle.calls.specs.Calls.{Word, AllInRange}
 use Rattle.history.specs.Effects.{Fresh, Request, remoteDisconnect, remoteReconnect, manualDisconnect, manualReconnect, Register, alarms, errors, Effect, sampled, requested, modeSet, limitsSet, clockSet, occurred, filterSet, bitsCleared, logCleared}
-use Rattle.history.specs.Last.{History, modeOf, filterOf, clockOf}
+use Rattle.history.specs.Last.{History, modeOf, clockOf}
 use Rattle.history.specs.Limiter.{firesOver, firesUnder}
 use Rattle.history.specs.Switch.{switchOf}
 use Rattle.history.specs.Registers.{stands, bitsOf}
 use Rattle.history.specs.Logs.{when, moves, requestCode, clearCode, owedBy, clearsLog, owed, logOf}
 use Rattle.history.specs.Account.{acceptedCalls, accountAfter}
-use Rattle.meter.specs.Sound.{soundScalars, soundState}
+use Rattle.meter.specs.Sound.{soundState}
 use Rattle.meter.specs.State.{State, recordOf}
 use Rattle.meter.specs.Fresh.{Settings, holding}
 use Rattle.meter.proofs.Effects.{Proper, AllProper, none, more}
 use Rattle.meter.proofs.Ranges.{filter-word}
-use Rattle.meter.proofs.Values.{scalars-sound, logs-sound, record-sized}
+use Rattle.meter.proofs.Values.{logs-sound, record-sized}
 use Rattle.meter.proofs.Simulates.{all-proper, named-sound}
 use Rattle.page.specs.Laws.{Typed}
-use Rattle.page.proofs.Threshold.{threshold-held}
 
 -- ---- the lines that calls owe
 -- a clock of 32 bits and a code of a byte
