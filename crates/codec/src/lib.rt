@@ -1,6 +1,6 @@
 // Numbers of one, two and four bytes, big-endian, and flags, at an offset of a slice of bytes.
 //
-// A read is total: a byte past the end reads as zero. A store has nowhere to put such a byte: it
+// A `get` is total: a byte past the end reads as zero. A store has nowhere to put such a byte: it
 // would leave only a part of the number behind. So each `put` requires that its bytes lie inside
 // the slice, and a caller that stores many values checks the length once.
 ghost use mathlib.Core.Path.{_≡_};
@@ -80,7 +80,15 @@ fn cut_u32(s: &[u8], at: usize) -> u32
     join_u32(get_u16(s, at), get_u16(s, at + 2))
 }
 
-// Four bytes inside the slice are read with no further test, so that they can be one load.
+// Four bytes that lie inside the slice, which it requires: with no test, they can be one load. A
+// caller that reads many numbers checks the length once.
+pub fn u32_at(s: &[u8], at: usize) -> u32
+    requires { ⌜ at + 4 ≤ length (now s) ⌝ }
+    ensures { λ r. ⌜ r ≡ numAt 4 (now (s .entry)) at ⌝ }
+{
+    join_u32(join_u16(s[at], s[at + 1]), join_u16(s[at + 2], s[at + 3]))
+}
+
 pub fn get_u32(s: &[u8], at: usize) -> u32
     ensures { λ r. ⌜ r ≡ numAt 4 (now (s .entry)) at ⌝ }
 {
@@ -90,7 +98,7 @@ pub fn get_u32(s: &[u8], at: usize) -> u32
     if s.len() - 4 < at {
         return cut_u32(s, at);
     }
-    join_u32(join_u16(s[at], s[at + 1]), join_u16(s[at + 2], s[at + 3]))
+    u32_at(s, at)
 }
 
 pub fn get_flag(s: &[u8], at: usize) -> bool

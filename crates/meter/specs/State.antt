@@ -19,6 +19,18 @@ abbrev pub scalarsOf : Meter → Scalars
 scalarsOf m =
     record { control = m .control; limiter = m .limiter; clock = m .clock; alarms = m .alarms; errors = m .errors }
 
+-- the record of these scalars and the logs in these arrays
+abbrev pub withLogs : Scalars → List ℕ → List ℕ → List ℕ → Meter
+withLogs s counts clocks codes =
+    record {
+      control = s .control;
+      limiter = s .limiter;
+      clock = s .clock;
+      alarms = s .alarms;
+      errors = s .errors;
+      logs = record { counts = counts; clocks = clocks; codes = codes };
+    }
+
 -- read off a record
 abbrev pub stateOf : Meter → State
 stateOf m = record { scalars = scalarsOf m; logs = listsOf (m .logs) }

@@ -16,6 +16,8 @@ use Rattle.control.specs.Control.{soundControl}
 use Rattle.limiter.specs.Limiter.{isThreshold, isDuration, awaited, soundSettings, soundLimiter}
 use Rattle.logs.specs.Layout.{soundLogs}
 use Rattle.meter.specs.declared.Meter.{Meter}
+use Rattle.meter.specs.declared.step.Scalars.{Scalars}
+use Rattle.meter.specs.State.{scalarsOf}
 use Rattle.meter.specs.Sound.{soundScalars, soundMeter}
 use Rattle.page.specs.Layout.{layout, start, meterIn, isRecord, holdsSound}
 
@@ -23,14 +25,18 @@ pub threshold-held : (z : ℤ) → isThreshold z ≡ true → T (nonNeg z) × (n
 threshold-held (pos n) e = (tt, omega (arith, leb-true n 2147483647 (and-right (leZ (pos 0) (pos n)) _ e)))
 threshold-held (negsuc n) e = let z : _≡_ {A = ℕ} 0 1 = cc in absurd (omega arith)
 
--- a sound record has a threshold of its range
-pub threshold-sound : (m : Meter) → soundMeter builtIn m ≡ true → isThreshold (m .limiter .threshold) ≡ true
-unfolding soundMeter soundScalars soundLimiter
-threshold-sound m e =
-    let l = m .limiter in
-    let scalars = and-left (soundControl (m .control) && soundLimiter l) (soundLogs builtIn (m .logs)) e in
-    let settings = and-left (soundSettings l) (ltb (l .run) (awaited l)) (and-right (soundControl (m .control)) (soundLimiter l) scalars) in
+-- sound scalars have a threshold of its range
+pub threshold-scalars : (s : Scalars) → soundScalars s ≡ true → isThreshold (s .limiter .threshold) ≡ true
+unfolding soundScalars soundLimiter
+threshold-scalars s e =
+    let l = s .limiter in
+    let settings = and-left (soundSettings l) (ltb (l .run) (awaited l)) (and-right (soundControl (s .control)) (soundLimiter l) e) in
     and-left (isThreshold (l .threshold)) (isDuration (l .over)) (and-left (isThreshold (l .threshold) && isDuration (l .over)) (isDuration (l .under)) settings)
+
+-- and so has a sound record
+pub threshold-sound : (m : Meter) → soundMeter builtIn m ≡ true → isThreshold (m .limiter .threshold) ≡ true
+unfolding soundMeter
+threshold-sound m e = threshold-scalars (scalarsOf m) (and-left (soundScalars (scalarsOf m)) (soundLogs builtIn (m .logs)) e)
 
 -- ---- the reader's test of the bytes
 

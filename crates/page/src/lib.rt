@@ -43,13 +43,16 @@ pub(crate) const PAGE_LEN: usize = LOGS + 3 * LOG_LEN;
 pub fn write_page(m: Meter, out: &mut [u8]) -> Answer
     ensures { λ r. ⌜ (r ≡ writeAnswer m (now (out .entry))) × (now (out .exit) ≡ written m (now (out .entry))) ⌝ }
 {
-    if !m.sound() {
+    // In parts, the arrays lent: each call that takes the whole record copies it.
+    let scalars = m.scalars();
+    if !(scalars.sound() & logs::sound(&m.logs.counts, &m.logs.clocks, &m.logs.codes)) {
         return Answer::Refused(12);
     }
     if out.len() < PAGE_LEN {
         return Answer::Refused(8);
     }
-    writer::put_page(out, m);
+    writer::put_scalars(out, scalars);
+    writer::put_logs(out, LOGS, &m.logs.counts, &m.logs.clocks, &m.logs.codes);
     Answer::Accepted
 }
 
@@ -67,12 +70,18 @@ pub fn read_page(bytes: &[u8]) -> Outcome
     if !reader::is_record(bytes) {
         return Outcome::refused(11);
     }
-    let meter = reader::meter_at(bytes);
-    if !meter.sound() {
+    // The logs first, the scalars last: read before the loops, they would be kept byte by byte.
+    let counts = reader::counts_at(bytes, LOGS);
+    let mut clocks = [0u32; 96];
+    reader::clocks_at(&mut clocks, bytes, LOGS);
+    let mut codes = [0u8; 96];
+    reader::codes_at(&mut codes, bytes, LOGS);
+    let scalars = reader::scalars_at(bytes);
+    if !(scalars.sound() & logs::sound(&counts, &clocks, &codes)) {
         return Outcome::refused(11);
     }
     Outcome {
-        meter,
+        meter: scalars.with_logs(counts, clocks, codes),
         answer: Answer::Accepted,
     }
 }

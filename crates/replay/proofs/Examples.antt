@@ -1,6 +1,6 @@
 -- The examples, computed.
 -- Assumes nothing.
-use mathlib.Core.Path.{_≡_, refl}
+use mathlib.Core.Path.{refl}
 use Rattle.codec.specs.Format.{be, numAt}
 use Rattle.calls.specs.Calls.{callOf}
 use Rattle.meter.specs.Fresh.{freshOutcome}

@@ -1,7 +1,4 @@
 use borrow.Author.Needs.{needs}
-use Prim.Native.Nat.{_+_}
-use native.Mathlib.Nat.{add-assoc}
-use Rattle.codec.proofs.Numbers.{numAt-halves, numAt-two}
 use Rattle.codec.proofs.get_u32.Statement.{statement}
 use Rattle.codec.proofs.get_u32.Tie as tie
 
@@ -20,58 +17,13 @@ cut-u32-requires-2 c κs = search needs
 returns-2 : tie.Need-returns-2
 returns-2 c = search needs
 
-shared-slice-read-join-u16 : tie.Need-shared-slice-read-join-u16
-shared-slice-read-join-u16 c = search needs
-
-add-join-u16 : tie.Need-add-join-u16
-add-join-u16 c = search needs
-
-shared-slice-read-join-u16-2 : tie.Need-shared-slice-read-join-u16-2
-shared-slice-read-join-u16-2 c = search needs
-
-join-u16-requires : tie.Need-join-u16-requires
-join-u16-requires c κs = search needs
-
-add-join-u16-2 : tie.Need-add-join-u16-2
-add-join-u16-2 c = search needs
-
-shared-slice-read-join-u16-3 : tie.Need-shared-slice-read-join-u16-3
-shared-slice-read-join-u16-3 c = search needs
-
-add-join-u16-3 : tie.Need-add-join-u16-3
-add-join-u16-3 c = search needs
-
-shared-slice-read-join-u16-4 : tie.Need-shared-slice-read-join-u16-4
-shared-slice-read-join-u16-4 c = search needs
-
-join-u16-requires-2 : tie.Need-join-u16-requires-2
-join-u16-requires-2 c κs = search needs
-
-join-u32-requires : tie.Need-join-u32-requires
-join-u32-requires c κs = search needs
+u32-at-requires : tie.Need-u32-at-requires
+u32-at-requires c κs = search needs
 
 returns-3 : tie.Need-returns-3
-returns-3 c =
-    let a = c .before .before .before .before .before .before .before .before .before .before .args in
-    cc (numAt-halves 2 2 (a .s .now) (a .at), numAt-two (a .s .now) (a .at), numAt-two (a .s .now) (a .at + 2), add-assoc (a .at) 2 1)
+returns-3 c = search needs
 
 pub get-u32-spec : {M : Type 1} → statement M
 get-u32-spec =
     tie.close
-    (tie.spec
-    cut-u32-requires
-    returns
-    sub-if2
-    cut-u32-requires-2
-    returns-2
-    shared-slice-read-join-u16
-    add-join-u16
-    shared-slice-read-join-u16-2
-    join-u16-requires
-    add-join-u16-2
-    shared-slice-read-join-u16-3
-    add-join-u16-3
-    shared-slice-read-join-u16-4
-    join-u16-requires-2
-    join-u32-requires
-    returns-3)
+    (tie.spec cut-u32-requires returns sub-if2 cut-u32-requires-2 returns-2 u32-at-requires returns-3)
