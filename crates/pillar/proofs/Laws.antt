@@ -1,0 +1,225 @@
+-- A page that is read holds a sound record, and calls keep it sound, so that the writer takes it: the page after a call is that of the machine's
+-- record, and after a list of calls that of the account.
+-- Assumes nothing.
+use mathlib.Core.Path.{_≡_, refl, sym, ap, _∙_}
+use mathlib.Core.Bool.{Bool, true, false, _&&_, cond}
+use mathlib.Core.List.{List, [], _∷_, append-nil, reverseAux}
+use Prim.Native.Nat.{ℕ}
+use native.Mathlib.Omega.{arith}
+use lib.Dec.{eqb, leb}
+use lib.ListN.{length, drop-of-length-le}
+use borrow.Author.Tests.{le-leb}
+use Rattle.codec.specs.Lawful.{Bytes}
+use Rattle.events.specs.Table.{builtIn}
+use Rattle.events.proofs.Rule.{built-in-lawful}
+use Rattle.logs.specs.Layout.{Sized}
+use Rattle.calls.specs.declared.Call.{Call}
+use Rattle.calls.specs.declared.Answer.{Answer}
+use Rattle.calls.specs.declared.Answer.the-variants.{Accepted, Refused}
+use Rattle.calls.specs.declared.Parsed.{Parsed}
+use Rattle.calls.specs.declared.Parsed.the-variants.{Ok, NoKind}
+use Rattle.calls.specs.Calls.{answerNumber, AllInRange}
+use Rattle.history.specs.Effects.{Fresh}
+use Rattle.history.specs.Account.{account}
+use Rattle.meter.specs.declared.Meter.{Meter}
+use Rattle.meter.specs.declared.Outcome.{Outcome}
+use Rattle.meter.specs.State.{recordOf}
+use Rattle.meter.specs.Sound.{soundMeter}
+use Rattle.meter.specs.Machine.{performed, commanded}
+use Rattle.meter.specs.Fresh.{Settings, SettingsInRange, freshState, freshOf, refusedOutcome, recordAfter}
+use Rattle.meter.proofs.Accepting.{fresh-laws}
+use Rattle.meter.proofs.Laws as meter
+use Rattle.meter.proofs.Preserved.{run-sound}
+use Rattle.meter.proofs.Simulates.{simulates}
+use Rattle.page.specs.Layout.{layout, start, size, pageOf, writeAnswer, written, accepted, hasPairs, meterIn, holdsSound, readOf}
+use Rattle.page.specs.Laws.{Typed}
+use Rattle.page.specs.Demand3.{accountPage}
+use Rattle.page.proofs.RoundTrip as roundtrip
+use Rattle.page.proofs.Ranges.{account-typed}
+use Rattle.replay.specs.declared.Record.{Record}
+use Rattle.replay.specs.Replay.{parsedIn, withCall, callsIn, nextOf}
+use Rattle.pillar.specs.Interface.{unlessRefused, unlessRefusedBytes, keptAnswer, keptPage, outcomeOn, callAnswer, callPage}
+use Rattle.pillar.proofs.Kept.{kept-refused}
+use Rattle.pillar.specs.Laws.{freshPageOf, callAnswerOf, callPageOf, callPages, Laws}
+
+-- ---- a sound record goes to the writer
+
+kept-answer : (o : Outcome) (page : List ℕ) → (o .answer ≡ Accepted → soundMeter builtIn (o .meter) ≡ true)
+    → keptAnswer o page ≡ unlessRefused (o .answer) (cond (leb size (length page)) 0 8)
+unfolding keptAnswer writeAnswer
+kept-answer o page sound = go (o .answer) sound
+  where
+    fits : (b : Bool) → answerNumber (cond b Accepted (Refused 8)) ≡ cond b 0 8
+    fits true = refl
+    fits false = refl
+
+    go : (a : Answer) → (a ≡ Accepted → soundMeter builtIn (o .meter) ≡ true)
+        → unlessRefused a (answerNumber (cond (soundMeter builtIn (o .meter)) (cond (leb size (length page)) Accepted (Refused 8)) (Refused 12)))
+        ≡ unlessRefused a (cond (leb size (length page)) 0 8)
+    go Accepted s = rw (s refl) (fits (leb size (length page)))
+    go (Refused n) s = refl
+
+module _ (o : Outcome) (page : List ℕ) (whole : length page ≡ size) where
+  full : leb size (length page) ≡ true
+  full = le-leb size (length page) (omega arith)
+
+  kept-written : o .answer ≡ Accepted → soundMeter builtIn (o .meter) ≡ true → keptPage o page ≡ pageOf (o .meter)
+  unfolding keptPage written
+  kept-written e sound = rw (e, sound, full, drop-of-length-le page {i = size} (omega arith)) (append-nil (pageOf (o .meter)))
+
+-- on any number but 0 every byte stays
+kept-same : (o : Outcome) (page : List ℕ) → (keptAnswer o page ≡ 0 → ⊥) → keptPage o page ≡ page
+unfolding keptAnswer keptPage
+kept-same o page some = go (o .answer) (writeAnswer (o .meter) page) refl some
+  where
+    go : (a w : Answer) → writeAnswer (o .meter) page ≡ w → (unlessRefused a (answerNumber w) ≡ 0 → ⊥)
+        → unlessRefusedBytes a (written (o .meter) page) page ≡ page
+    go Accepted Accepted e some = absurd (some refl)
+    go Accepted (Refused n) e some = roundtrip.laws .refused-same (o .meter) page n e
+    go (Refused n) w e some = refl
+
+call-same : (page : List ℕ) (r : Record) → (callAnswerOf page r ≡ 0 → ⊥) → callPageOf page r ≡ page
+unfolding callAnswer callPage
+call-same page r some = go (readOf page .answer) some
+  where
+    o : Outcome
+    o = outcomeOn (readOf page .meter) (r .kind) (r .n1) (r .n2) (r .n3) (r .n4) (r .n5)
+
+    go : (a : Answer) → (unlessRefused a (keptAnswer o page) ≡ 0 → ⊥) → unlessRefusedBytes a (keptPage o page) page ≡ page
+    go Accepted some = kept-same o page some
+    go (Refused n) some = refl
+
+-- ---- a call on a page that is read
+
+-- the record of such a page, and its page
+record Read (page : List ℕ) (m : Meter) : Type 0 where
+  pub reads : readOf page ≡ accepted m
+  pub back : pageOf m ≡ page
+  pub sound : soundMeter builtIn m ≡ true
+  pub sized : Sized (m .logs)
+
+performed-sound : (m : Meter) (p : Parsed) → AllInRange (withCall p []) → soundMeter builtIn m ≡ true → Sized (m .logs)
+    → soundMeter builtIn (performed builtIn m p .meter) ≡ true
+performed-sound m (Ok c) i sound sized = meter.built-in .kept-sound m c sized (i .0) sound
+performed-sound m NoKind i sound sized = sound
+
+module _ {page : List ℕ} {m : Meter} (k : Read page m) (r : Record) (i : AllInRange (withCall (parsedIn r) [])) where
+  next-sound : soundMeter builtIn (nextOf m r .meter) ≡ true
+  unfolding commanded
+  next-sound = performed-sound m (parsedIn r) i (k .sound) (k .sized)
+
+  whole : length page ≡ size
+  whole = ap length (sym (k .back)) ∙ roundtrip.page-length m
+
+  answer-on : callAnswerOf page r ≡ answerNumber (nextOf m r .answer)
+  unfolding callAnswer
+  answer-on =
+      ap (λ (o : Outcome). unlessRefused (o .answer) (keptAnswer (nextOf (o .meter) r) page)) (k .reads)
+      ∙ kept-answer (nextOf m r) page (λ e. next-sound)
+      ∙ rw (full (nextOf m r) page whole) (go (nextOf m r .answer))
+    where
+      go : (a : Answer) → unlessRefused a 0 ≡ answerNumber a
+      go Accepted = refl
+      go (Refused n) = refl
+
+  page-on : callPageOf page r ≡ pageOf (nextOf m r .meter)
+  unfolding callPage
+  page-on =
+      ap (λ (o : Outcome). unlessRefusedBytes (o .answer) (keptPage (nextOf (o .meter) r) page) page) (k .reads)
+      ∙ go (nextOf m r .answer) refl
+    where
+      o : Outcome
+      o = nextOf m r
+
+      go : (a : Answer) → o .answer ≡ a → keptPage o page ≡ pageOf (o .meter)
+      go Accepted e = kept-written o page whole e next-sound
+      go (Refused n) e = sym (kept-refused o page n e .1) ∙ sym (k .back) ∙ ap pageOf (sym (meter.built-in .command-refused-same m (r .kind) (r .n1) (r .n2) (r .n3) (r .n4) (r .n5) n (k .sized) e))
+
+-- an accepted page: the record is the one in its bytes
+accepted-in : (s : List ℕ) → readOf s .answer ≡ Accepted → (readOf s .meter ≡ meterIn s) × (layout .valid s start ≡ true)
+unfolding readOf holdsSound
+accepted-in s e = go (eqb (length s) size) (hasPairs s) (layout .valid s start) (soundMeter builtIn (meterIn s)) e
+  where
+    read : Bool → Bool → Bool → Bool → Outcome
+    read a b v d = cond a (cond b (cond (v && d) (accepted (meterIn s)) (refusedOutcome 11)) (refusedOutcome 10)) (refusedOutcome 9)
+
+    go : (a b v d : Bool) → read a b v d .answer ≡ Accepted → (read a b v d .meter ≡ meterIn s) × (v ≡ true)
+    go true true true true e = (refl, refl)
+    go true true true false e = let z : _≡_ {A = ℕ} 0 1 = cc in absurd (omega arith)
+    go true true false d e = let z : _≡_ {A = ℕ} 0 1 = cc in absurd (omega arith)
+    go true false v d e = let z : _≡_ {A = ℕ} 0 1 = cc in absurd (omega arith)
+    go false b v d e = let z : _≡_ {A = ℕ} 0 1 = cc in absurd (omega arith)
+
+held-sized : (m : Meter) → layout .Holds m → Sized (m .logs)
+unfolding layout
+held-sized m h = h .0 .1 .1 .1 .1 .1 .1
+
+from-page : (page : List ℕ) → Bytes page → readOf page .answer ≡ Accepted → Read page (readOf page .meter)
+from-page s bytes e =
+    let (same, valid) = accepted-in s e in
+    record {
+      reads = λ i. record { meter = readOf s .meter; answer = e i };
+      back = roundtrip.page-read s bytes e;
+      sound = roundtrip.laws .accepted-sound s e;
+      sized = rw same (held-sized (meterIn s) (roundtrip.layout-lawful .held-read s start bytes valid));
+    }
+
+-- ---- calls from an accepted fresh
+
+module _ (f : Fresh) (t : Settings f) where
+  -- the record after some calls, newest first
+  from-record : (cs : List Call) → AllInRange cs → Read (pageOf (recordAfter builtIn f cs)) (recordAfter builtIn f cs)
+  from-record cs i =
+      let m = recordAfter builtIn f cs in
+      let sound = run-sound builtIn built-in-lawful f t cs i in
+      let typed : Typed m = rw (simulates builtIn built-in-lawful f t cs i) (account-typed f t cs i) in
+      record { reads = roundtrip.read-page m typed sound; back = refl; sound = sound; sized = typed .logs }
+
+  first-range : (p : Parsed) (cs : List Call) → AllInRange (withCall p cs) → AllInRange (withCall p [])
+  first-range (Ok c) cs i = (i .0, tt)
+  first-range NoKind cs i = tt
+
+  pages-from : (rs : List Record) (cs : List Call) → AllInRange (callsIn rs) → AllInRange cs
+      → callPages (pageOf (recordAfter builtIn f cs)) rs ≡ pageOf (recordAfter builtIn f (reverseAux (callsIn rs) cs))
+  unfolding callPages callsIn commanded recordAfter
+  pages-from [] cs i k = refl
+  pages-from (r ∷ rs) cs i k =
+      ap (λ (page : List ℕ). callPages page rs) (page-on (from-record cs k) r (first-range (parsedIn r) (callsIn rs) i))
+      ∙ go (parsedIn r) i (pages-from rs)
+    where
+      go : (p : Parsed) → AllInRange (withCall p (callsIn rs))
+          → ((cs : List Call) → AllInRange (callsIn rs) → AllInRange cs
+          → callPages (pageOf (recordAfter builtIn f cs)) rs ≡ pageOf (recordAfter builtIn f (reverseAux (callsIn rs) cs)))
+          → callPages (pageOf (performed builtIn (recordAfter builtIn f cs) p .meter)) rs
+          ≡ pageOf (recordAfter builtIn f (reverseAux (withCall p (callsIn rs)) cs))
+      go (Ok c) i rest = rest (c ∷ cs) (i .1) (i .0, k)
+      go NoKind i rest = rest cs i k
+
+fresh-sound : (f : Fresh) → SettingsInRange f → freshOf f .answer ≡ Accepted → soundMeter builtIn (freshOf f .meter) ≡ true
+unfolding recordAfter
+fresh-sound f range e =
+    ap (soundMeter builtIn) (fresh-laws .accepted-meter f e)
+    ∙ run-sound builtIn built-in-lawful f (fresh-laws .accepted-settings f range e) [] tt
+
+account-page : (page : List ℕ) (f : Fresh) (rs : List Record) → length page ≡ size → freshOf f .answer ≡ Accepted → SettingsInRange f
+    → AllInRange (callsIn rs) → callPages (freshPageOf page f) rs ≡ accountPage (account builtIn f (callsIn rs))
+unfolding recordAfter
+account-page page f rs whole e range i =
+    let t = fresh-laws .accepted-settings f range e in
+    let first : freshPageOf page f ≡ pageOf (recordOf (freshState f)) =
+    kept-written (freshOf f) page whole e (fresh-sound f range e) ∙ ap pageOf (fresh-laws .accepted-meter f e) in
+    ap (λ (page : List ℕ). callPages page rs) first
+    ∙ pages-from f t rs [] i tt
+    ∙ ap pageOf (meter.built-in .simulates f (callsIn rs) t i)
+
+pub laws : Laws
+unfolding callsIn
+laws =
+    record {
+      fresh-answer = λ page f range. kept-answer (freshOf f) page (fresh-sound f range);
+      call-answer = λ page r bytes e i. answer-on (from-page page bytes e) r i;
+      call-page = λ page r bytes e i. page-on (from-page page bytes e) r i;
+      fresh-refused = λ page f. kept-same (freshOf f) page;
+      call-refused = call-same;
+      account-page = account-page;
+    }

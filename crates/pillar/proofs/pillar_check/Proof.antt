@@ -1,0 +1,20 @@
+-- `pillar_check` meets its contract: the number is that of the reader's answer.
+-- Assumes nothing.
+use mathlib.Core.Path.{_∙_, ap}
+use borrow.Author.Needs.{needs}
+use Rattle.calls.specs.Calls.{answerNumber}
+use Rattle.meter.specs.declared.Outcome.{Outcome}
+use Rattle.pillar.proofs.pillar_check.Statement.{statement}
+use Rattle.pillar.proofs.pillar_check.Tie as tie
+
+read-page-requires : tie.Need-read-page-requires
+read-page-requires c κs = search needs
+
+number-requires : tie.Need-number-requires
+number-requires c κs = search needs
+
+returns : tie.Need-returns
+returns c = c .number .ensures ∙ ap (λ (o : Outcome). answerNumber (o .answer)) (c .before .read-page .ensures)
+
+pub pillar-check-spec : {M : Type 1} → statement M
+pillar-check-spec = tie.close (tie.spec read-page-requires number-requires returns)

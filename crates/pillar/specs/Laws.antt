@@ -1,0 +1,58 @@
+-- What holds of the C interface: what a reader wants beside the definitions.
+use mathlib.Core.Path.{_≡_}
+use mathlib.Core.Bool.{cond}
+use mathlib.Core.List.{List, [], _∷_}
+use Prim.Native.Nat.{ℕ}
+use lib.Dec.{leb}
+use lib.ListN.{length}
+use Rattle.codec.specs.Lawful.{Bytes}
+use Rattle.events.specs.Table.{builtIn}
+use Rattle.calls.specs.declared.Answer.the-variants.{Accepted}
+use Rattle.calls.specs.Calls.{answerNumber, AllInRange}
+use Rattle.history.specs.Effects.{Fresh}
+use Rattle.history.specs.Account.{account}
+use Rattle.meter.specs.Fresh.{freshOf, SettingsInRange}
+use Rattle.page.specs.Layout.{size, pageOf, readOf}
+use Rattle.page.specs.Demand3.{accountPage}
+use Rattle.replay.specs.declared.Record.{Record}
+use Rattle.replay.specs.Replay.{callsIn, nextOf}
+use Rattle.pillar.specs.Interface.{unlessRefused, freshAnswer, freshPage, callAnswer, callPage}
+
+-- what `pillar_fresh` answers to the settings f
+abbrev pub freshAnswerOf : List ℕ → Fresh → ℕ
+freshAnswerOf page f = freshAnswer page (f .mode) (f .threshold) (f .over) (f .under) (f .clock)
+
+-- and the page that it leaves
+abbrev pub freshPageOf : List ℕ → Fresh → List ℕ
+freshPageOf page f = freshPage page (f .mode) (f .threshold) (f .over) (f .under) (f .clock)
+
+-- what `pillar_call` answers to the kind and the numbers of r
+abbrev pub callAnswerOf : List ℕ → Record → ℕ
+callAnswerOf page r = callAnswer page (r .kind) (r .n1) (r .n2) (r .n3) (r .n4) (r .n5)
+
+-- and the page that it leaves
+abbrev pub callPageOf : List ℕ → Record → List ℕ
+callPageOf page r = callPage page (r .kind) (r .n1) (r .n2) (r .n3) (r .n4) (r .n5)
+
+-- calls one after the other, each on the page that the one before left
+unfoldable pub callPages : List ℕ → List Record → List ℕ
+callPages page [] = page
+callPages page (r ∷ rs) = callPages (callPageOf page r) rs
+
+-- of `pillar_fresh`, of `pillar_call`, and of calls one after the other
+pub record Laws : Type 0 where
+  -- the writer refuses only a short buffer: fresh never answers 12 ..
+  pub fresh-answer : (page : List ℕ) (f : Fresh) → SettingsInRange f
+      → freshAnswerOf page f ≡ unlessRefused (freshOf f .answer) (cond (leb size (length page)) 0 8)
+  -- .. and a call on a page that is read answers as the machine does
+  pub call-answer : (page : List ℕ) (r : Record) → Bytes page → readOf page .answer ≡ Accepted → AllInRange (callsIn (r ∷ []))
+      → callAnswerOf page r ≡ answerNumber (nextOf (readOf page .meter) r .answer)
+  -- it leaves the page of the record that the machine hands back, accepted or refused
+  pub call-page : (page : List ℕ) (r : Record) → Bytes page → readOf page .answer ≡ Accepted → AllInRange (callsIn (r ∷ []))
+      → callPageOf page r ≡ pageOf (nextOf (readOf page .meter) r .meter)
+  -- on any number but 0 every byte stays
+  pub fresh-refused : (page : List ℕ) (f : Fresh) → (freshAnswerOf page f ≡ 0 → ⊥) → freshPageOf page f ≡ page
+  pub call-refused : (page : List ℕ) (r : Record) → (callAnswerOf page r ≡ 0 → ⊥) → callPageOf page r ≡ page
+  -- calls from an accepted fresh, refused ones among them, leave the page of their history's account
+  pub account-page : (page : List ℕ) (f : Fresh) (rs : List Record) → length page ≡ size → freshOf f .answer ≡ Accepted → SettingsInRange f
+      → AllInRange (callsIn rs) → callPages (freshPageOf page f) rs ≡ accountPage (account builtIn f (callsIn rs))

@@ -1,0 +1,105 @@
+// The C interface of the core, on numbers and byte slices only. A meter's state is its page, as a
+// device keeps it: nothing is kept between calls. No function asks anything of its arguments; each
+// answers 0 or the number of a refusal, and a refusal leaves every byte. `include/pillar.h` declares
+// them.
+ghost use mathlib.Core.Path.{_≡_};
+ghost use Rattle.calls.specs.Calls.{answerNumber};
+ghost use Rattle.replay.specs.Replay.{replayAnswer, replayed};
+ghost use Rattle.pillar.specs.Interface.{keptAnswer, keptPage, freshAnswer, freshPage, callAnswer, callPage, replayNumber, checkAnswer};
+use calls::Answer;
+use meter::Meter;
+use meter::Outcome;
+use replay::Replayed;
+
+// 0, or the number of the refusal.
+fn number(answer: Answer) -> u32
+    ensures { λ r. ⌜ r ≡ answerNumber answer ⌝ }
+{
+    match answer {
+        Answer::Accepted => 0,
+        Answer::Refused(number) => number as u32,
+    }
+}
+
+// The same of a whole input: numbers above every refusal's for what document 01 prints as words.
+fn replayed_number(replayed: Replayed) -> u32
+    ensures { λ r. ⌜ r ≡ replayNumber replayed ⌝ }
+{
+    match replayed {
+        Replayed::Written => 0,
+        Replayed::Empty => 100,
+        Replayed::Bad => 101,
+        Replayed::Short => 102,
+        Replayed::Refused(number) => number as u32,
+    }
+}
+
+// Writes the record of an accepted outcome into the page.
+fn keep(outcome: Outcome, page: &mut [u8]) -> u32
+    ensures { λ r. ⌜ (r ≡ keptAnswer outcome (now (page .entry))) × (now (page .exit) ≡ keptPage outcome (now (page .entry))) ⌝ }
+{
+    let answer = outcome.answer;
+    if let Answer::Refused(number) = answer {
+        return number as u32;
+    }
+    number(page::write_page(outcome.meter, page))
+}
+
+// Writes the page of a fresh meter into the first 558 bytes: 1 for a mode above 6, 4 if the threshold
+// is negative, 5 if a duration is not 1 to 86,400, 8 if there are fewer bytes.
+#[no_mangle]
+pub extern "C" fn pillar_fresh(
+    page: &mut [u8],
+    mode: u32,
+    threshold: i32,
+    over: u32,
+    under: u32,
+    clock: u32,
+) -> u32
+    ensures { λ r. ⌜ (r ≡ freshAnswer (now (page .entry)) mode threshold over under clock) × (now (page .exit) ≡ freshPage (now (page .entry)) mode threshold over under clock) ⌝ }
+{
+    keep(Meter::fresh(mode, threshold, over, under, clock), page)
+}
+
+// One call on the meter of a page, which is then that of the meter after it: 9, 10 and 11 as
+// `pillar_check`, 13 for a kind other than 1 to 15, then the call's own refusals.
+#[no_mangle]
+pub extern "C" fn pillar_call(
+    page: &mut [u8],
+    kind: u32,
+    n1: u32,
+    n2: u32,
+    n3: u32,
+    n4: u32,
+    n5: u32,
+) -> u32
+    ensures { λ r. ⌜ (r ≡ callAnswer (now (page .entry)) kind n1 n2 n3 n4 n5) × (now (page .exit) ≡ callPage (now (page .entry)) kind n1 n2 n3 n4 n5) ⌝ }
+{
+    let read = page::read_page(page);
+    let answer = read.answer;
+    if let Answer::Refused(number) = answer {
+        return number as u32;
+    }
+    keep(read.meter.command(kind, n1, n2, n3, n4, n5), page)
+}
+
+// Runs a whole list of 21-byte records, the first of which is fresh, and writes the page of its
+// history into the first 558 bytes: 100 if there is no byte, 101 if the first record is not fresh,
+// 102 if a record is cut short; 1, 4, 5 and 8 as `pillar_fresh`.
+#[no_mangle]
+pub extern "C" fn pillar_replay(records: &[u8], page: &mut [u8]) -> u32
+    ensures { λ r. ⌜ (r ≡ replayNumber (replayAnswer (now (records .entry)) (now (page .entry)))) × (now (page .exit) ≡ replayed (now (records .entry)) (now (page .entry))) ⌝ }
+{
+    replayed_number(replay::replay(records, page))
+}
+
+// Whether `pillar_call` can read a page: 9 if it is not of 558 bytes, 10 if a pair differs, 11 if its
+// record would not be sound.
+#[no_mangle]
+pub extern "C" fn pillar_check(page: &[u8]) -> u32
+    ensures { λ r. ⌜ r ≡ checkAnswer (now (page .entry)) ⌝ }
+{
+    let read = page::read_page(page);
+    let answer = read.answer;
+    number(answer)
+}
