@@ -1,0 +1,134 @@
+//! What has been compared, and whether it is enough for a run to pass.
+
+use std::collections::BTreeMap;
+
+/// From this many calls on, a run must have met every answer.
+pub const CALLS_FOR_EVERY_ANSWER: u64 = 100_000;
+
+/// What calls, fresh and the reader must have answered. 12 cannot be asked of
+/// the proved core: its state is a page, and an unsound page is refused by the
+/// reader (11).
+const ANSWERS: [u32; 13] = [0, 1, 2, 3, 4, 5, 6, 7, 8, 9, 10, 11, 13];
+
+/// What replay must have answered.
+const REPLAY_ANSWERS: [u32; 3] = [100, 101, 102];
+
+/// How often each answer was given.
+pub type Answers = BTreeMap<u32, u64>;
+
+/// What has been compared so far.
+#[derive(Clone, Default)]
+pub struct Counts {
+    pub calls: u64,
+    pub pages: u64,
+    pub lists: u64,
+    /// Of calls, fresh and the reader.
+    pub answers: Answers,
+    pub replay_answers: Answers,
+}
+
+impl Counts {
+    pub fn count_answer(&mut self, answer: u32) {
+        *self.answers.entry(answer).or_default() += 1;
+    }
+
+    pub fn count_replay_answer(&mut self, answer: u32) {
+        *self.replay_answers.entry(answer).or_default() += 1;
+    }
+
+    /// What a run of `calls` calls lacks, one line each; nothing if it passes.
+    pub fn lacking(&self, calls: u64) -> Vec<String> {
+        let mut lacking = Vec::new();
+        if self.calls < calls {
+            lacking.push(format!(
+                "the time (--seconds) ran out after {} of {calls} calls",
+                self.calls
+            ));
+        }
+        if calls < CALLS_FOR_EVERY_ANSWER {
+            return lacking;
+        }
+        let never = missing(&self.answers, &ANSWERS);
+        if !never.is_empty() {
+            lacking.push(format!("no call, fresh or reader answered {never}"));
+        }
+        let never = missing(&self.replay_answers, &REPLAY_ANSWERS);
+        if !never.is_empty() {
+            lacking.push(format!("no replay answered {never}"));
+        }
+        lacking
+    }
+}
+
+/// The demanded answers that were never given.
+fn missing(given: &Answers, demanded: &[u32]) -> String {
+    let missing = demanded.iter().filter(|answer| !given.contains_key(answer));
+    let missing: Vec<_> = missing.map(u32::to_string).collect();
+    missing.join(", ")
+}
+
+#[cfg(test)]
+mod tests {
+    use super::*;
+
+    fn enough() -> Counts {
+        let mut counts = Counts {
+            calls: CALLS_FOR_EVERY_ANSWER,
+            ..Counts::default()
+        };
+        (0..=11).for_each(|answer| counts.count_answer(answer));
+        counts.count_answer(13);
+        (100..=102).for_each(|answer| counts.count_replay_answer(answer));
+        counts
+    }
+
+    #[test]
+    fn all_calls_and_answers_pass() {
+        assert!(enough().lacking(CALLS_FOR_EVERY_ANSWER).is_empty());
+    }
+
+    #[test]
+    fn too_few_calls_fail() {
+        let lacking = enough().lacking(CALLS_FOR_EVERY_ANSWER + 1);
+        assert_eq!(
+            lacking,
+            ["the time (--seconds) ran out after 100000 of 100001 calls"]
+        );
+        assert_eq!(Counts::default().lacking(1).len(), 1);
+    }
+
+    #[test]
+    fn each_missing_answer_fails() {
+        for answer in ANSWERS {
+            let mut counts = enough();
+            counts.answers.remove(&answer);
+            let told = format!("no call, fresh or reader answered {answer}");
+            assert_eq!(counts.lacking(CALLS_FOR_EVERY_ANSWER), [told]);
+        }
+        for answer in REPLAY_ANSWERS {
+            let mut counts = enough();
+            counts.replay_answers.remove(&answer);
+            let told = format!("no replay answered {answer}");
+            assert_eq!(counts.lacking(CALLS_FOR_EVERY_ANSWER), [told]);
+        }
+    }
+
+    /// Replay refuses with fresh's numbers too; they don't stand for fresh's.
+    #[test]
+    fn replay_does_not_stand_for_fresh() {
+        let mut counts = enough();
+        counts.answers.remove(&4);
+        counts.count_replay_answer(4);
+        assert_eq!(counts.lacking(CALLS_FOR_EVERY_ANSWER).len(), 1);
+    }
+
+    #[test]
+    fn short_runs_need_no_answers() {
+        let counts = Counts {
+            calls: 308,
+            ..Counts::default()
+        };
+        assert!(counts.lacking(308).is_empty());
+        assert!(!counts.lacking(309).is_empty());
+    }
+}

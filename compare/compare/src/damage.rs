@@ -1,0 +1,88 @@
+//! Damaged pages: what a worn memory or a wrong writer would hand over.
+
+use crate::field::{self, EXCEEDED, LINES, LOGS, MODE, OVER, RUN, SWITCH, THRESHOLD, UNDER};
+use crate::random::Random;
+use pillar::PAGE;
+
+/// The page with one piece of damage, or with two, so that the order of the
+/// refusals shows.
+pub fn damaged(random: &mut Random, page: &[u8; PAGE]) -> Vec<u8> {
+    let mut bytes = page.to_vec();
+    damage(random, &mut bytes);
+    if random.one_in(4) {
+        damage(random, &mut bytes);
+    }
+    if random.one_in(16) {
+        resize(random, &mut bytes);
+    }
+    bytes
+}
+
+/// Changes bytes of a whole page.
+fn damage(random: &mut Random, page: &mut [u8]) {
+    match random.below(11) {
+        0 => page[random.below(PAGE)] = random.byte(),
+        1 => page[random.below(PAGE)] ^= 1 << random.below(8),
+        2 => page[random.below(MODE)] ^= 1 << random.below(8),
+        3 => swap_pairs(random, page),
+        4 => page[EXCEEDED] = random.pick(&[0, 1, 2, 3, 128, 255]),
+        5 => damage_count(random, page),
+        6 => damage_code(random, page),
+        7 => damage_past_count(random, page),
+        8 => page[MODE] = random.pick(&[0, 1, 6, 7, 128, 255]),
+        9 => page[SWITCH] = random.pick(&[0, 1, 2, 3, 255]),
+        _ => damage_limiter(random, page),
+    }
+}
+
+fn resize(random: &mut Random, bytes: &mut Vec<u8>) {
+    let any = random.below(2 * PAGE + 2);
+    let length = random.pick(&[PAGE - 1, PAGE + 1, 0, 1, 32, 2 * PAGE, any]);
+    bytes.resize(length, 0);
+}
+
+fn swap_pairs(random: &mut Random, page: &mut [u8]) {
+    let (first, second) = (random.below(8), random.below(8));
+    for byte in 0..4 {
+        page.swap(4 * first + byte, 4 * second + byte);
+    }
+}
+
+fn damage_count(random: &mut Random, page: &mut [u8]) {
+    let count = &mut page[LOGS[random.below(3)]];
+    let near = [count.wrapping_add(1), count.wrapping_sub(1)];
+    *count = random.pick(&[near[0], near[1], 0, 32, 33, 128, 255]);
+}
+
+/// A code at the edge of some log's own codes, in any line.
+fn damage_code(random: &mut Random, page: &mut [u8]) {
+    const CODES: [u8; 22] = [
+        0, 1, 3, 4, 9, 10, 16, 17, 39, 40, 46, 47, 58, 59, 67, 68, 69, 70, 127, 128, 254, 255,
+    ];
+    let line = field::line(random.below(3), random.below(LINES));
+    page[line + 4] = random.pick(&CODES);
+}
+
+fn damage_past_count(random: &mut Random, page: &mut [u8]) {
+    let log = random.below(3);
+    let count = usize::from(page[LOGS[log]]);
+    if count >= LINES {
+        return;
+    }
+    let line = field::line(log, count + random.below(LINES - count));
+    page[line + random.below(5)] = 1 << random.below(8);
+}
+
+fn damage_limiter(random: &mut Random, page: &mut [u8]) {
+    let over = field::get(page, OVER);
+    let under = field::get(page, UNDER);
+    match random.below(4) {
+        0 => page[THRESHOLD] ^= 0x80,
+        1 => field::put(page, OVER, random.pick(&[0, 1, 86_400, 86_401, 1 << 31])),
+        2 => field::put(page, UNDER, random.pick(&[0, 1, 86_400, 86_401, 1 << 31])),
+        _ => {
+            let runs = [over, over.wrapping_sub(1), under, under.wrapping_sub(1)];
+            field::put(page, RUN, random.pick(&runs));
+        }
+    }
+}

@@ -1,0 +1,296 @@
+//! Calls and settings, aimed at the places where cores go wrong.
+
+use crate::call::Call;
+use crate::field;
+use crate::random::Random;
+use pillar::{PAGE, Settings};
+
+/// What a history aims at.
+#[derive(Clone, Copy, Debug, PartialEq, Eq)]
+pub enum Profile {
+    Mixed,
+    Edges,
+    WideNumbers,
+    UnknownKinds,
+    Runs,
+    Requests,
+    FullLogs,
+    Registers,
+    LateClock,
+    LateOpenings,
+}
+
+impl Profile {
+    pub const ALL: [Profile; 10] = [
+        Profile::Mixed,
+        Profile::Edges,
+        Profile::WideNumbers,
+        Profile::UnknownKinds,
+        Profile::Runs,
+        Profile::Requests,
+        Profile::FullLogs,
+        Profile::Registers,
+        Profile::LateClock,
+        Profile::LateOpenings,
+    ];
+
+    /// The kinds to choose from, the frequent ones more than once.
+    fn kinds(self) -> &'static [u32] {
+        match self {
+            Profile::Runs => &[1, 1, 1, 1, 1, 1, 1, 1, 1, 1, 1, 1, 2, 3, 5, 5, 6, 7],
+            Profile::Requests => &[2, 2, 3, 3, 4, 4, 5, 5, 6, 15, 15, 1],
+            Profile::FullLogs => &[9, 9, 9, 9, 9, 9, 9, 9, 1, 2, 3, 4, 5, 7, 8, 12, 13],
+            Profile::Registers => &[9, 9, 9, 9, 9, 10, 11, 12, 13, 8, 1],
+            Profile::LateClock => &[1, 1, 1, 1, 8, 9, 7, 14],
+            Profile::LateOpenings => &[2, 3, 4, 5, 5, 6, 1, 1, 15],
+            _ => &[1, 1, 2, 3, 4, 5, 6, 7, 8, 9, 10, 11, 12, 13, 14, 15],
+        }
+    }
+
+    fn reach(self, random: &mut Random) -> Reach {
+        let odds = match self {
+            Profile::Edges => [1, 8, 1],
+            Profile::WideNumbers => [4, 1, 5],
+            Profile::Mixed | Profile::LateClock => [7, 2, 1],
+            _ => [30, 1, 1],
+        };
+        let drawn = random.below(odds.iter().sum());
+        if drawn < odds[0] {
+            return Reach::Usual;
+        }
+        if drawn < odds[0] + odds[1] {
+            return Reach::Edge;
+        }
+        Reach::Wide
+    }
+}
+
+/// How far out the numbers of a call lie.
+#[derive(Clone, Copy)]
+enum Reach {
+    Usual,
+    /// The first and last numbers of a range and their neighbours.
+    Edge,
+    /// A usual number with bits above its byte or half.
+    Wide,
+}
+
+const CODES: [u32; 18] = [
+    1, 2, 6, 7, 8, 12, 13, 14, 15, 16, 40, 41, 42, 43, 44, 45, 46, 68,
+];
+const EVENT_BITS: u32 = 0x3f03;
+const LAST: u32 = u32::MAX;
+const MODES_AT_EDGE: [u32; 8] = [0, 1, 6, 7, 8, 255, 256, LAST];
+const THRESHOLDS_AT_EDGE: [u32; 6] = [0, 1, 0x7fff_fffe, 0x7fff_ffff, 0x8000_0000, LAST];
+const DURATIONS_AT_EDGE: [u32; 11] = [
+    0,
+    1,
+    2,
+    86_399,
+    86_400,
+    86_401,
+    65_536,
+    65_537,
+    0x8000_0001,
+    0x100_0001,
+    LAST,
+];
+const CLOCKS_AT_EDGE: [u32; 6] = [0, 1, LAST, LAST - 1, LAST - 2, 0x8000_0000];
+const CODES_AT_EDGE: [u32; 20] = [
+    0, 3, 4, 5, 9, 10, 11, 17, 39, 47, 59, 63, 64, 66, 67, 69, 254, 255, 256, 262,
+];
+const MASKS_AT_EDGE: [u32; 7] = [0, 1, LAST, !1, 1 << 13, EVENT_BITS, 0x8000_0000];
+const LOGS_AT_EDGE: [u32; 7] = [0, 1, 3, 4, 255, 257, LAST];
+const SCRIPTS_AT_EDGE: [u32; 7] = [0, 1, 2, 3, 257, 258, LAST];
+
+/// Draws the calls of one history.
+pub struct Generator {
+    profile: Profile,
+    /// Samples come in rows over or not over the threshold.
+    over: bool,
+}
+
+impl Generator {
+    pub fn new(profile: Profile) -> Generator {
+        Generator {
+            profile,
+            over: false,
+        }
+    }
+
+    /// Settings for fresh; some are refused.
+    pub fn settings(&self, random: &mut Random) -> Settings {
+        let reach = match random.one_in(8) {
+            true => self.profile.reach(random),
+            false => Reach::Usual,
+        };
+        let late = self.profile == Profile::LateClock;
+        Settings {
+            mode: mode(random, reach),
+            threshold: threshold(random, reach) as i32,
+            over: duration(random, reach),
+            under: duration(random, reach),
+            clock: clock(random, if late { Reach::Edge } else { reach }),
+        }
+    }
+
+    /// The next call for the meter of this page.
+    pub fn call(&mut self, random: &mut Random, page: &[u8; PAGE]) -> Call {
+        if self.profile == Profile::UnknownKinds && random.one_in(2) {
+            return unknown_kind(random);
+        }
+        let kind = random.pick(self.profile.kinds());
+        let reach = self.profile.reach(random);
+        // Numbers that a call doesn't use are drawn too; both sides ignore them.
+        let mut numbers = [0; 5].map(|_| random.number());
+        match kind {
+            1 => numbers[0] = self.power(random, reach, page),
+            6 => numbers[0] = mode(random, reach),
+            7 => {
+                numbers[0] = threshold(random, reach);
+                numbers[1] = duration(random, reach);
+                numbers[2] = duration(random, reach);
+            }
+            8 => numbers[0] = clock(random, reach),
+            9 => numbers[0] = draw(random, reach, &CODES, &CODES_AT_EDGE),
+            10..=13 => numbers[0] = mask(random, reach),
+            14 => numbers[0] = draw(random, reach, &[1, 2, 3], &LOGS_AT_EDGE),
+            15 => numbers[0] = draw(random, reach, &[1, 2], &SCRIPTS_AT_EDGE),
+            _ => {}
+        }
+        Call { kind, numbers }
+    }
+
+    /// At the threshold or one above it, in rows; now and then anything.
+    fn power(&mut self, random: &mut Random, reach: Reach, page: &[u8; PAGE]) -> u32 {
+        let threshold = field::get(page, field::THRESHOLD) as i32;
+        if random.one_in(5) {
+            self.over = !self.over;
+        }
+        let power = match reach {
+            Reach::Usual if self.over => threshold.saturating_add(1),
+            Reach::Usual if random.one_in(3) => -(random.below(5000) as i32),
+            Reach::Usual => threshold,
+            Reach::Edge => random.pick(&[i32::MIN, i32::MAX, threshold - 1, 0, -1, 1]),
+            Reach::Wide => random.number() as i32,
+        };
+        power as u32
+    }
+
+    /// A meter that calls alone would reach late or never; some are unsound.
+    pub fn patch(&self, random: &mut Random, page: &[u8; PAGE]) -> [u8; PAGE] {
+        let mut page = *page;
+        match self.profile {
+            Profile::Runs => patch_run(random, &mut page),
+            Profile::Requests => patch_switch(random, &mut page),
+            Profile::LateClock => {
+                let left = random.below(3) as u32;
+                field::put(&mut page, field::CLOCK, LAST - left);
+            }
+            Profile::LateOpenings => {
+                let left = random.below(3) as u32;
+                field::put(&mut page, field::OPENINGS, LAST - left);
+            }
+            Profile::FullLogs => patch_lines(random, &mut page),
+            _ => {
+                field::put(&mut page, field::ALARMS, random.number());
+                field::put(&mut page, field::ERRORS, random.number());
+            }
+        }
+        page
+    }
+
+    /// How often a history is patched: once in so many calls.
+    pub fn patches(&self) -> usize {
+        match self.profile {
+            Profile::Runs | Profile::Requests => 20,
+            Profile::LateClock | Profile::LateOpenings => 12,
+            _ => 400,
+        }
+    }
+
+    /// How many calls the history has.
+    pub fn length(&self, random: &mut Random) -> usize {
+        match self.profile {
+            Profile::FullLogs => random.below(400),
+            _ => random.below(120),
+        }
+    }
+}
+
+fn unknown_kind(random: &mut Random) -> Call {
+    let kind = match random.below(4) {
+        0 => random.pick(&[0, 16, 17, 255, 256, LAST, 0x8000_0000]),
+        1 => 256 + random.below(17) as u32,
+        2 => random.below(15) as u32 + 1 + (random.number() << 8),
+        _ => random.number(),
+    };
+    Call {
+        kind,
+        numbers: [0; 5].map(|_| random.number()),
+    }
+}
+
+/// Run one or two samples before its end, also for the longest durations.
+fn patch_run(random: &mut Random, page: &mut [u8; PAGE]) {
+    let stretch = random.pick(&[1, 2, 3, 86_399, 86_400]);
+    let exceeded = random.below(2) as u8;
+    let left = random.below(3) as u32;
+    page[field::EXCEEDED] = exceeded;
+    let duration = [field::OVER, field::UNDER][usize::from(exceeded)];
+    field::put(page, duration, stretch);
+    field::put(page, field::RUN, stretch.saturating_sub(left));
+}
+
+fn patch_switch(random: &mut Random, page: &mut [u8; PAGE]) {
+    page[field::MODE] = random.below(7) as u8;
+    page[field::SWITCH] = random.below(3) as u8;
+}
+
+/// A log filled to its last line but one, its last or whole.
+fn patch_lines(random: &mut Random, page: &mut [u8; PAGE]) {
+    let log = random.below(3);
+    let count = 30 + random.below(3);
+    let code = [1, 40, 59][log];
+    page[field::LOGS[log]] = count as u8;
+    for place in 0..field::LINES {
+        let line = field::line(log, place);
+        let held = place < count;
+        field::put(page, line, if held { random.number() } else { 0 });
+        page[line + 4] = if held { code } else { 0 };
+    }
+}
+
+fn mode(random: &mut Random, reach: Reach) -> u32 {
+    draw(random, reach, &[0, 1, 2, 3, 4, 5, 6], &MODES_AT_EDGE)
+}
+
+fn threshold(random: &mut Random, reach: Reach) -> u32 {
+    let usual = random.below(5000) as u32;
+    draw(random, reach, &[usual], &THRESHOLDS_AT_EDGE)
+}
+
+fn duration(random: &mut Random, reach: Reach) -> u32 {
+    draw(random, reach, &[1, 2, 3, 4, 5, 6], &DURATIONS_AT_EDGE)
+}
+
+fn clock(random: &mut Random, reach: Reach) -> u32 {
+    let usual = random.number();
+    draw(random, reach, &[usual], &CLOCKS_AT_EDGE)
+}
+
+fn mask(random: &mut Random, reach: Reach) -> u32 {
+    let usual = random.number() & EVENT_BITS;
+    let wide = random.number();
+    draw(random, reach, &[usual, wide], &MASKS_AT_EDGE)
+}
+
+fn draw(random: &mut Random, reach: Reach, usual: &[u32], edge: &[u32]) -> u32 {
+    let number = random.pick(usual);
+    match reach {
+        Reach::Usual => number,
+        Reach::Edge => random.pick(edge),
+        Reach::Wide if random.one_in(2) => number | random.number() << 8,
+        Reach::Wide => number | random.number() << 16,
+    }
+}

@@ -1,0 +1,52 @@
+//! The same test against plain with a blunder: it must find each one.
+
+use crate::counts::Counts;
+use crate::run::{Found, Plan, run};
+use plain::fault;
+
+type Run = fn(&Plan) -> Result<Counts, Box<Found>>;
+
+pub const PLANTED: [(&str, Run); 12] = [
+    (
+        "trips at power equal to threshold",
+        run::<{ fault::TRIPS_AT_THRESHOLD }>,
+    ),
+    (
+        "forgets to count openings from g",
+        run::<{ fault::FORGETS_LOCAL_OPENINGS }>,
+    ),
+    (
+        "shows where a ring buffer begins",
+        run::<{ fault::RING_LOG }>,
+    ),
+    (
+        "moves to Ready on a remote reconnect while Connected",
+        run::<{ fault::RECONNECT_OPENS }>,
+    ),
+    (
+        "trips again while Exceeded",
+        run::<{ fault::TRIPS_WHILE_EXCEEDED }>,
+    ),
+    (
+        "applies a filter when the register is read",
+        run::<{ fault::FILTERS_ON_READ }>,
+    ),
+    (
+        "lets openings go on from 0",
+        run::<{ fault::OPENINGS_WRAP }>,
+    ),
+    ("lets the clock go on from 0", run::<{ fault::CLOCK_WRAPS }>),
+    (
+        "ends Exceeded with a limiter setting",
+        run::<{ fault::LIMITER_ENDS_EXCEEDED }>,
+    ),
+    ("cuts a mode to its low byte", run::<{ fault::CUTS_MODE }>),
+    (
+        "writes no line for a clear with mask 0",
+        run::<{ fault::SILENT_EMPTY_MASK }>,
+    ),
+    (
+        "reads any Exceeded byte",
+        run::<{ fault::READS_ANY_EXCEEDED }>,
+    ),
+];

@@ -1,0 +1,206 @@
+//! The differential test: fixed sweeps first, then histories until the calls
+//! or the time are used up. The sweeps are always run whole: they take 0.2
+//! seconds, 2 in a debug build.
+
+use crate::call::{Call, fresh_record};
+use crate::counts::Counts;
+use crate::damage::damaged;
+use crate::difference::Difference;
+use crate::generate::{Generator, Profile};
+use crate::random::Random;
+use crate::sides::{Compared, Sides};
+use pillar::{PAGE, Settings};
+use std::time::{Duration, Instant};
+
+pub struct Plan {
+    pub seed: u64,
+    pub calls: u64,
+    pub time: Duration,
+}
+
+/// A difference and how far the run had come.
+pub struct Found {
+    pub difference: Box<Difference>,
+    pub counts: Counts,
+    pub place: String,
+}
+
+/// Runs the test; `FAULT` is the blunder planted in plain, 0 for none.
+pub fn run<const FAULT: u8>(plan: &Plan) -> Result<Counts, Box<Found>> {
+    let begin = Instant::now();
+    let mut random = Random::new(plan.seed);
+    let mut sides = match Sides::<FAULT>::new() {
+        Ok(sides) => sides,
+        Err(difference) => return Err(found(difference, Counts::default(), "the start")),
+    };
+    if let Err(difference) = sweep(&mut sides, &mut random) {
+        return Err(found(difference, sides.counts, "the sweep"));
+    }
+    let mut histories = 0_u64;
+    while sides.counts.calls < plan.calls && begin.elapsed() < plan.time {
+        let profile = random.pick(&Profile::ALL);
+        histories += 1;
+        if let Err(difference) = history(&mut sides, &mut random, profile, plan.calls) {
+            let place = format!("history {histories} ({profile:?})");
+            return Err(found(difference, sides.counts, &place));
+        }
+    }
+    Ok(sides.counts)
+}
+
+fn found(difference: Box<Difference>, counts: Counts, place: &str) -> Box<Found> {
+    Box::new(Found {
+        difference,
+        counts,
+        place: String::from(place),
+    })
+}
+
+/// One list of calls from a fresh meter: call by call, with damaged pages
+/// beside them, and then as a whole.
+fn history<const FAULT: u8>(
+    sides: &mut Sides<FAULT>,
+    random: &mut Random,
+    profile: Profile,
+    calls: u64,
+) -> Compared<()> {
+    let mut generator = Generator::new(profile);
+    let settings = generator.settings(random);
+    let mut list = Vec::new();
+    fresh_record(settings).append_to(&mut list);
+    if !sides.fresh(settings, buffer_length(random))? {
+        generator.call(random, &sides.page).append_to(&mut list);
+        return sides.replay(&list, buffer_length(random), None);
+    }
+    let mut patched = false;
+    for _ in 0..generator.length(random) {
+        if sides.counts.calls >= calls {
+            break;
+        }
+        if random.one_in(generator.patches()) {
+            let page = generator.patch(random, &sides.page);
+            let call = generator.call(random, &sides.page);
+            patched |= sides.adopt(page, call)?;
+        }
+        let call = generator.call(random, &sides.page);
+        sides.call(call)?;
+        call.append_to(&mut list);
+        if random.one_in(4) {
+            let page = damaged(random, &sides.page);
+            let call = generator.call(random, &sides.page);
+            sides.inspect(&page, call)?;
+        }
+    }
+    let page = sides.page;
+    let length = PAGE + random.pick(&[0, 0, 1, 100]);
+    sides.replay(&list, length, (!patched).then_some(&page))?;
+    spoil(random, &mut list);
+    sides.replay(&list, buffer_length(random), None)
+}
+
+/// Mostly a page's length; else shorter or longer.
+fn buffer_length(random: &mut Random) -> usize {
+    if random.one_in(2) {
+        return PAGE;
+    }
+    let any = random.below(PAGE);
+    random.pick(&[PAGE - 1, PAGE + 1, PAGE + 442, 0, any])
+}
+
+/// Cuts a list, empties it or changes a byte of it.
+fn spoil(random: &mut Random, list: &mut Vec<u8>) {
+    match random.below(8) {
+        0 => list.clear(),
+        1 => list.truncate(random.below(22)),
+        2 => list.truncate(random.below(list.len() + 1)),
+        3 => list.truncate(list.len() - 1),
+        4 => list[0] = random.pick(&[1, 2, 15, 16, 255]),
+        5 => list[random.below(21)] = random.byte(),
+        6 => {
+            let place = random.below(list.len());
+            list[place] = random.byte();
+        }
+        _ => list.extend(vec![0; random.below(22)]),
+    }
+}
+
+/// Every byte of three pages changed, every length, and the longest duration
+/// run to its end.
+fn sweep<const FAULT: u8>(sides: &mut Sides<FAULT>, random: &mut Random) -> Compared<()> {
+    for rounds in [0, 4, 40] {
+        busy_meter(sides, rounds)?;
+        sweep_bytes(sides, random)?;
+        sweep_lengths(sides, random)?;
+    }
+    longest_runs(sides)
+}
+
+/// Events, moves and registers in all three logs, `rounds` times.
+fn busy_meter<const FAULT: u8>(sides: &mut Sides<FAULT>, rounds: usize) -> Compared<()> {
+    let settings = Settings {
+        mode: 5,
+        threshold: 3000,
+        over: 2,
+        under: 3,
+        clock: 1000,
+    };
+    sides.fresh(settings, PAGE)?;
+    let calls = [(9, 6), (9, 40), (2, 0), (15, 2), (5, 0), (1, 3001), (10, 2)];
+    for (kind, number) in calls.repeat(rounds) {
+        sides.call(call(kind, number))?;
+    }
+    Ok(())
+}
+
+fn sweep_bytes<const FAULT: u8>(sides: &mut Sides<FAULT>, random: &mut Random) -> Compared<()> {
+    let page = sides.page;
+    for place in 0..PAGE {
+        let byte = page[place];
+        let near = [byte ^ 1, byte ^ 0x80, byte.wrapping_add(1), byte ^ 2];
+        for value in [near[0], near[1], near[2], near[3], 0, 255, random.byte()] {
+            let mut damaged = page;
+            damaged[place] = value;
+            sides.inspect(&damaged, call(1, 0))?;
+        }
+    }
+    Ok(())
+}
+
+fn sweep_lengths<const FAULT: u8>(sides: &mut Sides<FAULT>, random: &mut Random) -> Compared<()> {
+    let page = sides.page;
+    for length in 0..2 * PAGE + 2 {
+        let mut bytes = page.to_vec();
+        bytes.resize(length, random.byte());
+        sides.inspect(&bytes, call(1, 0))?;
+    }
+    Ok(())
+}
+
+/// "Over 86,400 taken": its last sample but one, its last, and so with Under.
+fn longest_runs<const FAULT: u8>(sides: &mut Sides<FAULT>) -> Compared<()> {
+    const LONGEST: usize = 86_400;
+    let settings = Settings {
+        mode: 6,
+        threshold: 0,
+        over: LONGEST as u32,
+        under: LONGEST as u32,
+        clock: u32::MAX - LONGEST as u32,
+    };
+    let mut list = Vec::new();
+    fresh_record(settings).append_to(&mut list);
+    let turns = [(LONGEST - 1, 1), (1, 1), (LONGEST - 1, 0), (1, 0)];
+    for (samples, power) in turns {
+        for _ in 0..samples {
+            call(1, power).append_to(&mut list);
+        }
+        sides.replay(&list, PAGE, None)?;
+    }
+    Ok(())
+}
+
+fn call(kind: u32, number: u32) -> Call {
+    Call {
+        kind,
+        numbers: [number, 0, 0, 0, 0],
+    }
+}

@@ -1,0 +1,195 @@
+//! The two sides, held at the same meter: plain as its record, the proved core
+//! as its page. Whatever is done is done to both and compared at once.
+
+use crate::call::Call;
+use crate::counts::Counts;
+use crate::difference::{Difference, Outcome, judge};
+use pillar::{PAGE, Settings};
+use plain::Machine;
+
+/// What buffers hold before they are written.
+const FILL: u8 = 0x5a;
+
+pub type Compared<T> = Result<T, Box<Difference>>;
+
+pub struct Sides<const FAULT: u8> {
+    pub meter: Machine<FAULT>,
+    pub page: [u8; PAGE],
+    pub counts: Counts,
+}
+
+impl<const FAULT: u8> Sides<FAULT> {
+    /// Both sides at the meter of mode 0, threshold 0, durations 1, clock 0.
+    pub fn new() -> Compared<Self> {
+        let mut sides = Sides {
+            meter: Machine::default(),
+            page: [0; PAGE],
+            counts: Counts::default(),
+        };
+        let settings = Settings {
+            mode: 0,
+            threshold: 0,
+            over: 1,
+            under: 1,
+            clock: 0,
+        };
+        sides.fresh(settings, PAGE)?;
+        Ok(sides)
+    }
+
+    /// A fresh meter, its page written into a buffer of `length` bytes.
+    /// Answers whether it was accepted; only then do both sides take it over.
+    pub fn fresh(&mut self, settings: Settings, length: usize) -> Compared<bool> {
+        let mut plain = vec![FILL; length];
+        let mut pillar = plain.clone();
+        let meter = fresh_meter(settings);
+        let written = meter.and_then(|meter| meter.write_page(&mut plain));
+        let answer = plain_number(written);
+        let outcome = Outcome {
+            answer,
+            bytes: &plain,
+        };
+        let theirs = Outcome {
+            answer: pillar_number(pillar::fresh(&mut pillar, settings)),
+            bytes: &pillar,
+        };
+        judge(outcome, theirs, &[], || {
+            format!("fresh {settings:?} into {length} bytes")
+        })?;
+        self.counts.count_answer(answer);
+        let (Ok(meter), Some(page)) = (meter, pillar.first_chunk()) else {
+            return Ok(false);
+        };
+        self.meter = meter;
+        self.page = *page;
+        Ok(true)
+    }
+
+    /// One call on both sides.
+    pub fn call(&mut self, call: Call) -> Compared<()> {
+        let before = self.page;
+        let answer = plain_number(self.meter.command(call.kind, call.numbers));
+        let theirs = pillar_number(pillar::call(&mut self.page, call.kind, call.numbers));
+        let mut page = [FILL; PAGE];
+        let written = plain_number(self.meter.write_page(&mut page));
+        let plain = Outcome {
+            answer: answer.max(written),
+            bytes: &page,
+        };
+        let pillar = Outcome {
+            answer: theirs,
+            bytes: &self.page,
+        };
+        self.counts.calls += 1;
+        judge(plain, pillar, &before, || call.to_string())?;
+        self.counts.count_answer(answer);
+        Ok(())
+    }
+
+    /// Both readers judge these bytes, and then both run a call on them.
+    /// Answers whether the reader accepts them.
+    pub fn inspect(&mut self, bytes: &[u8], call: Call) -> Compared<bool> {
+        let meter = Machine::<FAULT>::read_page(bytes);
+        let answer = plain_number(meter.map(|_| ()));
+        let plain = Outcome { answer, bytes };
+        let pillar = Outcome {
+            answer: pillar_number(pillar::check(bytes)),
+            bytes,
+        };
+        self.counts.pages += 1;
+        judge(plain, pillar, bytes, || {
+            format!("reading a damaged page of {} bytes", bytes.len())
+        })?;
+        self.counts.count_answer(answer);
+
+        let mut ours = bytes.to_vec();
+        let mut theirs = bytes.to_vec();
+        let plain = Outcome {
+            answer: plain_number(call_on_page::<FAULT>(&mut ours, call)),
+            bytes: &ours,
+        };
+        let pillar = Outcome {
+            answer: pillar_number(pillar::call(&mut theirs, call.kind, call.numbers)),
+            bytes: &theirs,
+        };
+        judge(plain, pillar, bytes, || {
+            format!("{call} on a damaged page of {} bytes", bytes.len())
+        })?;
+        Ok(meter.is_ok())
+    }
+
+    /// Goes on from this page if the reader accepts it; answers whether.
+    pub fn adopt(&mut self, page: [u8; PAGE], call: Call) -> Compared<bool> {
+        if !self.inspect(&page, call)? {
+            return Ok(false);
+        }
+        if let Ok(meter) = Machine::read_page(&page) {
+            self.meter = meter;
+            self.page = page;
+        }
+        Ok(true)
+    }
+
+    /// A whole list, its page written into a buffer of `length` bytes.
+    /// `page` is the one that the calls gave one by one, where it is known.
+    pub fn replay(&mut self, list: &[u8], length: usize, page: Option<&[u8]>) -> Compared<()> {
+        let mut ours = vec![FILL; length];
+        let mut theirs = ours.clone();
+        let answer = plain_number(Machine::<FAULT>::replay(list, &mut ours));
+        let their_answer = pillar_number(pillar::replay(list, &mut theirs));
+        let what = || {
+            let bytes = list.len();
+            format!("replay of a list of {bytes} bytes into {length} bytes")
+        };
+        let plain = Outcome {
+            answer,
+            bytes: &ours,
+        };
+        let pillar = Outcome {
+            answer: their_answer,
+            bytes: &theirs,
+        };
+        self.counts.lists += 1;
+        judge(plain, pillar, list, what)?;
+        self.counts.count_replay_answer(answer);
+        let Some(page) = page else {
+            return Ok(());
+        };
+        let one_by_one = Outcome {
+            answer: 0,
+            bytes: page,
+        };
+        let pillar = Outcome {
+            answer: their_answer,
+            bytes: &theirs[..length.min(PAGE)],
+        };
+        judge(one_by_one, pillar, list, || {
+            format!("{} against its calls one by one", what())
+        })
+    }
+}
+
+fn fresh_meter<const FAULT: u8>(settings: Settings) -> Result<Machine<FAULT>, u8> {
+    let Settings {
+        mode,
+        threshold,
+        over,
+        under,
+        clock,
+    } = settings;
+    Machine::fresh(mode, threshold, over, under, clock)
+}
+
+fn call_on_page<const FAULT: u8>(page: &mut [u8], call: Call) -> Result<(), u8> {
+    let mut meter = Machine::<FAULT>::read_page(page)?;
+    meter.command(call.kind, call.numbers)?;
+    meter.write_page(page)
+}
+
+fn plain_number(answer: Result<(), u8>) -> u32 {
+    answer.err().unwrap_or(0).into()
+}
+
+fn pillar_number(answer: pillar::Answer) -> u32 {
+    answer.err().unwrap_or(0)
+}

@@ -1,0 +1,31 @@
+//! Deliberate blunders, to show that the comparison would notice them.
+//!
+//! A [`Machine`](crate::Machine) bears the number of its blunder as a constant
+//! of its type. [`Meter`](crate::Meter) bears [`NONE`], and there the compiler
+//! drops each of these branches.
+
+pub const NONE: u8 = 0;
+/// "Tripping at power equal to threshold."
+pub const TRIPS_AT_THRESHOLD: u8 = 1;
+/// A local disconnect (g) is not counted in Openings.
+pub const FORGETS_LOCAL_OPENINGS: u8 = 2;
+/// "A page that shows where a ring buffer begins."
+pub const RING_LOG: u8 = 3;
+/// "Remote reconnect on a Connected switch moving it to Ready."
+pub const RECONNECT_OPENS: u8 = 4;
+/// "Tripping again while Exceeded after a manual reconnect."
+pub const TRIPS_WHILE_EXCEEDED: u8 = 5;
+/// "Applying a filter when the register is read."
+pub const FILTERS_ON_READ: u8 = 6;
+/// Openings goes on from 0 after its last number.
+pub const OPENINGS_WRAP: u8 = 7;
+/// The clock goes on from 0 after its last second.
+pub const CLOCK_WRAPS: u8 = 8;
+/// Setting the limiter ends Exceeded.
+pub const LIMITER_ENDS_EXCEEDED: u8 = 9;
+/// A mode is cut to its low byte before it is judged.
+pub const CUTS_MODE: u8 = 10;
+/// A clear with mask 0 writes no line.
+pub const SILENT_EMPTY_MASK: u8 = 11;
+/// The reader takes any Exceeded byte other than 0 for yes.
+pub const READS_ANY_EXCEEDED: u8 = 12;

@@ -1,0 +1,26 @@
+//! The switching core of the pillar meter, written from document 01, but for
+//! one thing: document 01 gives the faults of a list no numbers, so those of
+//! [`Machine::replay`], 100 to 102, and the order of its refusals are the C
+//! interface's (`pillar.h`).
+//!
+//! [`Meter`] is the record with its fifteen calls. Every call works in place
+//! and answers `Ok(())` or the number of its refusal; a refused call leaves
+//! the record as it was. The quotations in the comments are document 01's.
+
+mod events;
+#[cfg(feature = "faults")]
+pub mod fault;
+#[cfg(not(feature = "faults"))]
+mod fault;
+mod list;
+mod log;
+mod meter;
+mod page;
+pub mod refusal;
+
+pub use list::RECORD;
+pub use log::{LINES, Log};
+pub use meter::{
+    Answer, CONNECTED, DISCONNECT, DISCONNECTED, FRAUD, LONGEST, Machine, Meter, READY, STANDARD,
+};
+pub use page::{PAGE, PAIRS};

@@ -1,0 +1,38 @@
+//! The refusals by number: 1 to 13 are those of document 01's "Where a call
+//! stops"; 100 to 102 are the C interface's (`pillar.h`), which numbers the
+//! faults of a list.
+
+/// "mode above 6" (fresh, call 6)
+pub const MODE: u8 = 1;
+/// "mode not in the switch table for that request" (calls 2–5, also by script)
+pub const MODE_RULE: u8 = 2;
+/// Script "not 1 or 2"
+pub const SCRIPT: u8 = 3;
+/// "threshold negative" (fresh, call 7)
+pub const THRESHOLD: u8 = 4;
+/// "Over or Under out of range" (fresh, call 7)
+pub const DURATION: u8 = 5;
+/// "code not listed" (call 9)
+pub const CODE: u8 = 6;
+/// "log not 1–3" (call 14)
+pub const LOG: u8 = 7;
+/// "buffer under 558 bytes" (writer)
+pub const BUFFER: u8 = 8;
+/// "length not 558" (reader)
+pub const LENGTH: u8 = 9;
+/// "a pair differs" (reader)
+pub const PAIR: u8 = 10;
+/// "the record would not be sound, or Exceeded above 1" (reader)
+pub const UNSOUND_PAGE: u8 = 11;
+/// "not sound; every call and the writer"
+pub const UNSOUND: u8 = 12;
+/// Kind "not 1–15"
+pub const KIND: u8 = 13;
+
+/// `PILLAR_EMPTY`: a list without a byte
+pub const EMPTY_LIST: u8 = 100;
+/// `PILLAR_BAD`: "The first has kind 0 and is fresh, else one line `bad` ends
+/// it"
+pub const BAD_LIST: u8 = 101;
+/// `PILLAR_SHORT`: "a cut record, the first too, writes `short` and ends"
+pub const SHORT_LIST: u8 = 102;

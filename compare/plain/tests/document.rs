@@ -1,0 +1,370 @@
+//! Document 01's worked example and page, and the rules around them.
+
+use plain::{CONNECTED, DISCONNECT, DISCONNECTED, LONGEST, Meter, PAGE, READY, STANDARD, refusal};
+
+const FRESH: (u32, [u32; 5]) = (0, [5, 3000, 2, 3, 1000]);
+
+/// "samples 3000, 3001, 3001; call 5; samples 0, −5, 0; call 2; call 5;
+/// script 3; script 2; mode 7; mode 0; call 2"
+const CALLS: [(u32, u32); 14] = [
+    (1, 3000),
+    (1, 3001),
+    (1, 3001),
+    (5, 0),
+    (1, 0),
+    (1, -5_i32 as u32),
+    (1, 0),
+    (2, 0),
+    (5, 0),
+    (15, 3),
+    (15, 2),
+    (6, 7),
+    (6, 0),
+    (2, 0),
+];
+
+const LISTING: &str = "\
+1 0 1 0
+2 0 1 0
+3 0 1 0
+4 0 2 1
+5 0 1 1
+6 0 1 1
+7 0 1 1
+8 0 1 1
+9 0 0 2
+10 0 0 2
+11 3 0 2
+12 0 2 2
+13 1 2 2
+14 0 1 2
+15 2 1 2
+";
+
+fn example() -> Meter {
+    Meter::fresh(5, 3000, 2, 3, 1000).unwrap()
+}
+
+fn worked() -> (Meter, String) {
+    let mut meter = example();
+    let mut listing = String::from("1 0 1 0\n");
+    for (place, &(kind, number)) in CALLS.iter().enumerate() {
+        let answer = meter.command(kind, [number, 0, 0, 0, 0]);
+        let refusal = answer.err().unwrap_or(0);
+        let line = format!(
+            "{} {refusal} {} {}\n",
+            place + 2,
+            meter.switch,
+            meter.openings
+        );
+        listing.push_str(&line);
+    }
+    (meter, listing)
+}
+
+fn page_of(meter: &Meter) -> [u8; PAGE] {
+    let mut page = [0xaa; PAGE];
+    meter.write_page(&mut page).unwrap();
+    page
+}
+
+fn record(kind: u32, numbers: [u32; 5]) -> Vec<u8> {
+    let mut bytes = vec![kind as u8];
+    for number in numbers {
+        bytes.extend(number.to_be_bytes());
+    }
+    bytes
+}
+
+fn list() -> Vec<u8> {
+    let mut bytes = record(FRESH.0, FRESH.1);
+    for (kind, number) in CALLS {
+        bytes.extend(record(kind, [number, 7, 7, 7, 7]));
+    }
+    bytes
+}
+
+#[test]
+fn worked_example_gives_the_listing() {
+    assert_eq!(worked().1, LISTING);
+}
+
+/// "Log 3 then: 65, 64, 61 at 1003; 66, 62, 59, 63 at 1006."
+#[test]
+fn worked_example_gives_log_3() {
+    let lines: Vec<_> = worked().0.logs[DISCONNECT].lines().collect();
+    let early = [65, 64, 61].map(|code| (1003, code));
+    let late = [66, 62, 59, 63].map(|code| (1006, code));
+    assert_eq!(lines, [&early[..], &late[..]].concat());
+}
+
+#[test]
+fn replay_gives_the_page_of_the_calls() {
+    let mut page = [0x55; PAGE + 3];
+    assert_eq!(Meter::replay(&list(), &mut page), Ok(()));
+    assert_eq!(page[..PAGE], page_of(&worked().0));
+    assert_eq!(page[PAGE..], [0x55; 3]);
+}
+
+#[test]
+fn replay_refuses_in_order() {
+    let replay = |records: &[u8], length: usize| {
+        let mut page = vec![0x55; length];
+        let answer = Meter::replay(records, &mut page);
+        assert!(answer.is_ok() || page.iter().all(|&byte| byte == 0x55));
+        answer.err().unwrap_or(0)
+    };
+    let list = list();
+    assert_eq!(replay(&[], 0), 100);
+    assert_eq!(replay(&list[..20], 0), 102);
+    assert_eq!(replay(&list[21..30], 0), 102);
+    assert_eq!(replay(&list[21..60], 0), 101);
+    let refused = [record(0, [7, 0, 1, 1, 0]), vec![1]].concat();
+    assert_eq!(replay(&refused, 0), 1);
+    assert_eq!(replay(&list[..22], 0), 102);
+    assert_eq!(replay(&list, PAGE - 1), 8);
+    assert_eq!(replay(&list, PAGE), 0);
+    assert_eq!(replay(&list[..21], PAGE), 0);
+}
+
+/// The layout, field by field, against bytes written out by hand.
+#[test]
+fn page_has_the_stated_layout() {
+    let (mut meter, _) = worked();
+    meter.openings = 0x0102_0304;
+    meter.alarms = 0x1112_1314;
+    meter.alarm_filter = 0x2122_2324;
+    meter.errors = 0x3132_3334;
+    meter.error_filter = 0x4142_4344;
+    meter.mode = 6;
+    meter.switch = READY;
+    meter.run = 1;
+    let page = page_of(&meter);
+
+    let pairs = [
+        0, 32, 0, 6, 0, 38, 0, 17, 0, 55, 0, 4, 0, 59, 0, 8, 0, 67, 0, 8, 0, 75, 0, 161, 0, 236, 0,
+        161, 1, 141, 0, 161,
+    ];
+    assert_eq!(page[..32], pairs);
+    assert_eq!(page[32..38], [6, 2, 1, 2, 3, 4]);
+    let limiter = [0, 0, 11, 184, 0, 0, 0, 2, 0, 0, 0, 3, 0, 0, 0, 0, 1];
+    assert_eq!(page[38..55], limiter);
+    assert_eq!(page[55..59], [0, 0, 3, 238]);
+    let alarms = [0x11, 0x12, 0x13, 0x14, 0x21, 0x22, 0x23, 0x24];
+    assert_eq!(page[59..67], alarms);
+    let errors = [0x31, 0x32, 0x33, 0x34, 0x41, 0x42, 0x43, 0x44];
+    assert_eq!(page[67..75], errors);
+    assert_eq!(page[75..397], [0; 322]);
+    let lines = [
+        7, 0, 0, 3, 235, 65, 0, 0, 3, 235, 64, 0, 0, 3, 235, 61, 0, 0, 3, 238, 66, 0, 0, 3, 238,
+        62, 0, 0, 3, 238, 59, 0, 0, 3, 238, 63,
+    ];
+    assert_eq!(page[397..433], lines);
+    assert_eq!(page[433..], [0; 125]);
+    assert_eq!(Meter::read_page(&page), Ok(meter));
+}
+
+#[test]
+fn the_logs_stand_in_order_on_the_page() {
+    let mut meter = example();
+    meter.event(6).unwrap();
+    meter.event(46).unwrap();
+    meter.event(68).unwrap();
+    let page = page_of(&meter);
+    assert_eq!(page[75..81], [1, 0, 0, 3, 232, 6]);
+    assert_eq!(page[236..242], [1, 0, 0, 3, 232, 46]);
+    assert_eq!(page[397..403], [1, 0, 0, 3, 232, 68]);
+    assert_eq!(
+        page[59..75],
+        [0, 0, 0, 1, 0, 0, 0, 0, 0, 0, 0, 1, 0, 0, 0, 0]
+    );
+}
+
+#[test]
+fn the_writer_leaves_bytes_past_the_page() {
+    let meter = example();
+    let mut long = [0x55; PAGE + 10];
+    assert_eq!(meter.write_page(&mut long), Ok(()));
+    assert_eq!(long[PAGE..], [0x55; 10]);
+    let mut short = [0x55; PAGE - 1];
+    assert_eq!(meter.write_page(&mut short), Err(refusal::BUFFER));
+    assert_eq!(short, [0x55; PAGE - 1]);
+}
+
+#[test]
+fn the_reader_refuses_in_order() {
+    let good = page_of(&example());
+    let read = |change: &dyn Fn(&mut [u8; PAGE])| {
+        let mut page = good;
+        change(&mut page);
+        Meter::read_page(&page).err().unwrap_or(0)
+    };
+    assert_eq!(read(&|_| ()), 0);
+    assert_eq!(read(&|page| page[3] = 7), 10);
+    assert_eq!(read(&|page| (page[3], page[32]) = (7, 9)), 10);
+    assert_eq!(read(&|page| page[32] = 7), 11);
+    assert_eq!(read(&|page| page[32] = 0), 0);
+    assert_eq!(read(&|page| (page[32], page[33]) = (0, 2)), 11);
+    assert_eq!(read(&|page| page[33] = 3), 11);
+    assert_eq!(read(&|page| page[38] = 0x80), 11);
+    assert_eq!(read(&|page| page[45] = 0), 11);
+    assert_eq!(read(&|page| page[46] = 1), 11);
+    assert_eq!(read(&|page| page[50] = 1), 0);
+    assert_eq!(read(&|page| page[50] = 2), 11);
+    assert_eq!(read(&|page| page[54] = 1), 0);
+    assert_eq!(read(&|page| page[54] = 2), 11);
+    assert_eq!(read(&|page| page[75] = 33), 11);
+    assert_eq!(read(&|page| page[75] = 1), 11);
+    assert_eq!(read(&|page| (page[75], page[80]) = (1, 255)), 0);
+    assert_eq!(read(&|page| (page[75], page[80]) = (1, 40)), 11);
+    assert_eq!(read(&|page| page[557] = 255), 11);
+    assert_eq!(Meter::read_page(&good[..557]), Err(refusal::LENGTH));
+    assert_eq!(Meter::read_page(&[0; 559]), Err(refusal::LENGTH));
+}
+
+#[test]
+fn fresh_refuses_in_order() {
+    let fresh = |mode, threshold, over, under| {
+        Meter::fresh(mode, threshold, over, under, 0)
+            .err()
+            .unwrap_or(0)
+    };
+    assert_eq!(fresh(7, -1, 0, 0), 1);
+    assert_eq!(fresh(256, 0, 1, 1), 1);
+    assert_eq!(fresh(6, -1, 0, 0), 4);
+    assert_eq!(fresh(6, 0, 0, 1), 5);
+    assert_eq!(fresh(6, 0, 1, LONGEST + 1), 5);
+    assert_eq!(fresh(6, i32::MAX, LONGEST, LONGEST), 0);
+    let refused = Meter::fresh(7, 5, 5, 5, 5).unwrap_or_default();
+    assert_eq!(refused, Meter::fresh(0, 0, 1, 1, 0).unwrap());
+}
+
+#[test]
+fn numbers_are_judged_at_their_full_width() {
+    let mut meter = example();
+    let before = meter;
+    let mut answer = |kind, number| meter.command(kind, [number, 1, 1, 0, 0]);
+    assert_eq!(answer(6, 256), Err(1));
+    assert_eq!(answer(15, 257), Err(3));
+    assert_eq!(answer(9, 262), Err(6));
+    assert_eq!(answer(14, 257), Err(7));
+    assert_eq!(answer(257, 0), Err(13));
+    assert_eq!(answer(0, 0), Err(13));
+    assert_eq!(answer(16, 0), Err(13));
+    assert_eq!(answer(7, 1 << 31), Err(4));
+    assert_eq!(meter, before);
+}
+
+#[test]
+fn an_unsound_record_is_refused_by_every_call_and_the_writer() {
+    let mut meter = example();
+    meter.run = 2;
+    let before = meter;
+    for kind in 1..=15 {
+        let answer = meter.command(kind, [9, 0, 0, 0, 0]);
+        assert_eq!(answer, Err(refusal::UNSOUND), "call {kind}");
+    }
+    assert_eq!(meter.command(16, [0; 5]), Err(refusal::KIND));
+    assert_eq!(meter.write_page(&mut []), Err(refusal::UNSOUND));
+    assert_eq!(meter, before);
+}
+
+/// The switch table, each mode and position: answer, position, line.
+#[test]
+fn requests_follow_the_switch_table() {
+    for mode in 1..=6 {
+        let a = matches!(mode, 2 | 4);
+        let f = matches!(mode, 1 | 2 | 5);
+        let back = if a { (CONNECTED, 63) } else { (READY, 59) };
+        let stay = |position| (0, position, None);
+        let go = |(position, line)| (0, position, Some(line));
+        assert_eq!(request(mode, DISCONNECTED, 2), stay(DISCONNECTED));
+        assert_eq!(request(mode, CONNECTED, 2), go((DISCONNECTED, 62)));
+        assert_eq!(request(mode, READY, 2), go((DISCONNECTED, 62)));
+        assert_eq!(request(mode, DISCONNECTED, 3), go(back));
+        assert_eq!(request(mode, CONNECTED, 3), stay(CONNECTED));
+        assert_eq!(request(mode, READY, 3), stay(READY));
+        assert_eq!(request(mode, DISCONNECTED, 5), stay(DISCONNECTED));
+        assert_eq!(request(mode, CONNECTED, 5), stay(CONNECTED));
+        assert_eq!(request(mode, READY, 5), go((CONNECTED, 61)));
+        for position in [DISCONNECTED, CONNECTED, READY] {
+            let expected = match (f, position) {
+                (false, _) => (refusal::MODE_RULE, position, None),
+                (true, CONNECTED) => go((READY, 60)),
+                (true, _) => stay(position),
+            };
+            assert_eq!(request(mode, position, 4), expected);
+        }
+    }
+    for kind in 2..=5 {
+        assert_eq!(request(0, CONNECTED, kind), (2, CONNECTED, None));
+    }
+}
+
+fn request(mode: u8, switch: u8, kind: u32) -> (u8, u8, Option<u8>) {
+    let mut meter = example();
+    meter.mode = mode;
+    meter.switch = switch;
+    let answer = meter.command(kind, [0; 5]).err().unwrap_or(0);
+    let opened = switch == CONNECTED && meter.switch != CONNECTED;
+    assert_eq!(meter.openings, opened.into());
+    let line = meter.logs[DISCONNECT].lines().last().map(|line| line.1);
+    (answer, meter.switch, line)
+}
+
+#[test]
+fn the_ends_hold() {
+    let mut meter = Meter::fresh(1, 0, 2, 2, u32::MAX - 1).unwrap();
+    meter.openings = u32::MAX;
+    meter.sample(i32::MIN).unwrap();
+    meter.sample(i32::MIN).unwrap();
+    assert_eq!((meter.clock, meter.run), (u32::MAX, 0));
+    meter.remote_disconnect().unwrap();
+    assert_eq!((meter.switch, meter.openings), (DISCONNECTED, u32::MAX));
+}
+
+#[test]
+fn setting_the_clock_writes_both_clocks() {
+    let mut meter = example();
+    meter.event(6).unwrap();
+    meter.set_clock(7).unwrap();
+    let lines: Vec<_> = meter.logs[STANDARD].lines().collect();
+    assert_eq!(lines, [(1000, 6), (1000, 4), (7, 5)]);
+    assert_eq!((meter.alarms, meter.errors), (1, 0));
+}
+
+#[test]
+fn filters_hide_at_the_event_only() {
+    let mut meter = example();
+    meter.set_alarm_filter(1 << 13 | 1).unwrap();
+    meter.event(40).unwrap();
+    meter.event(6).unwrap();
+    assert_eq!((meter.alarms, meter.errors), (0, 1));
+    meter.set_alarm_filter(0).unwrap();
+    meter.set_error_filter(u32::MAX).unwrap();
+    assert_eq!((meter.alarms, meter.errors), (0, 1));
+}
+
+#[test]
+fn clears_write_their_lines() {
+    let mut meter = example();
+    meter.clear_alarms(0).unwrap();
+    meter.clear_errors(0).unwrap();
+    let lines: Vec<_> = meter.logs[STANDARD].lines().collect();
+    assert_eq!(lines, [(1000, 11), (1000, 10)]);
+    meter.clear_log(1).unwrap();
+    let lines: Vec<_> = meter.logs[STANDARD].lines().collect();
+    assert_eq!(lines, [(1000, 255)]);
+}
+
+#[test]
+fn a_limiter_setting_keeps_exceeded() {
+    let mut meter = Meter::fresh(0, 10, 1, 2, 0).unwrap();
+    meter.sample(11).unwrap();
+    meter.sample(0).unwrap();
+    assert_eq!((meter.exceeded, meter.run, meter.openings), (true, 1, 0));
+    meter.set_limiter(20, 1, 1).unwrap();
+    assert_eq!((meter.exceeded, meter.run), (true, 0));
+    let codes: Vec<_> = meter.logs[DISCONNECT].lines().map(|line| line.1).collect();
+    assert_eq!(codes, [65, 67]);
+}

@@ -1,0 +1,51 @@
+//! The proved core: its loops on a record in memory, and its C interface, whose
+//! state is the page.
+
+#[cfg(not(feature = "stand-in"))]
+use crate::measure;
+#[cfg(feature = "stand-in")]
+use crate::plain_side as measure;
+use crate::side::{Call, Page, Side};
+use pillar::Answer;
+use std::hint::black_box;
+
+pub struct Proved;
+
+impl Side for Proved {
+    fn name(&self) -> &'static str {
+        if pillar::STAND_IN {
+            return "stand-in";
+        }
+        "proved"
+    }
+
+    fn calls(&self, page: &mut Page, records: &[u8], rounds: u32) -> u32 {
+        measure::calls(page, records, rounds)
+    }
+
+    fn sound(&self, page: &Page, rounds: u32) -> u32 {
+        measure::sound(page, rounds)
+    }
+
+    fn write(&self, page: &mut Page, rounds: u32) -> u32 {
+        measure::write(page, rounds)
+    }
+
+    fn read(&self, page: &mut Page, rounds: u32) -> u32 {
+        measure::read(page, rounds)
+    }
+
+    fn call_on_page(&self, page: &mut Page, call: Call, rounds: u32) -> u32 {
+        let answer = |_| number(pillar::call(black_box(page), call.kind, call.numbers));
+        (0..rounds).map(answer).sum()
+    }
+
+    fn replay(&self, list: &[u8], page: &mut Page, rounds: u32) -> u32 {
+        let answer = |_| number(pillar::replay(black_box(list), page));
+        (0..rounds).map(answer).sum()
+    }
+}
+
+fn number(answer: Answer) -> u32 {
+    answer.err().unwrap_or(0)
+}

@@ -1,0 +1,39 @@
+//! What a core must offer to be measured.
+
+use pillar::PAGE;
+
+pub type Page = [u8; PAGE];
+
+#[derive(Clone, Copy)]
+pub struct Call {
+    pub kind: u32,
+    pub numbers: [u32; 5],
+}
+
+/// One core. Each job does its work in `rounds` rounds and answers a number
+/// that tells whether it was done; the page lent shows what was done.
+pub trait Side {
+    fn name(&self) -> &'static str;
+
+    /// Reads the page, runs the records of a list as calls from record to
+    /// record in memory, the whole list in each round, and writes the page.
+    fn calls(&self, page: &mut Page, records: &[u8], rounds: u32) -> u32;
+
+    /// Reads the page and tests its record; answers how often it was sound.
+    fn sound(&self, page: &Page, rounds: u32) -> u32;
+
+    /// Reads the page and writes its record, the clock counting the rounds;
+    /// answers how often that was accepted.
+    fn write(&self, page: &mut Page, rounds: u32) -> u32;
+
+    /// Reads the page, the last byte of its clock counting the rounds; answers
+    /// how often it was accepted.
+    fn read(&self, page: &mut Page, rounds: u32) -> u32;
+
+    /// Reads the page, runs a call and, unless it is refused, writes the page;
+    /// answers the sum of the answers.
+    fn call_on_page(&self, page: &mut Page, call: Call, rounds: u32) -> u32;
+
+    /// Runs a whole list into the page; answers the sum of the answers.
+    fn replay(&self, list: &[u8], page: &mut Page, rounds: u32) -> u32;
+}

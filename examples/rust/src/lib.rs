@@ -1,0 +1,64 @@
+//! Safe functions over the C interface of the proved core.
+//!
+//! The state of a meter is its page of [`PAGE`] bytes; the core keeps nothing
+//! between calls. A refusal is the core's number, and the bytes lent stay as
+//! they were. Whatever is passed is safe: a slice goes over as its pointer and
+//! its length, and the core judges the length.
+
+#[cfg(not(feature = "stand-in"))]
+mod linked;
+#[cfg(feature = "stand-in")]
+mod stand_in;
+
+#[cfg(not(feature = "stand-in"))]
+use linked as core;
+#[cfg(feature = "stand-in")]
+use stand_in as core;
+
+/// The page's length.
+pub const PAGE: usize = 558;
+
+/// Whether plain runs here in the proved core's place.
+pub const STAND_IN: bool = cfg!(feature = "stand-in");
+
+/// `Ok(())`, or the number of the refusal.
+pub type Answer = Result<(), u32>;
+
+/// The numbers of a fresh meter.
+#[derive(Clone, Copy, Debug, PartialEq, Eq)]
+pub struct Settings {
+    pub mode: u32,
+    pub threshold: i32,
+    pub over: u32,
+    pub under: u32,
+    pub clock: u32,
+}
+
+/// Writes a fresh meter's page into the first [`PAGE`] bytes: 1, 4, 5 or 8.
+pub fn fresh(page: &mut [u8], settings: Settings) -> Answer {
+    answer(core::fresh(page, settings))
+}
+
+/// Runs one call on the meter whose page is lent: 9, 10 or 11 from the reader,
+/// then 13, then the call's own refusal.
+pub fn call(page: &mut [u8], kind: u32, numbers: [u32; 5]) -> Answer {
+    answer(core::call(page, kind, numbers))
+}
+
+/// Runs a list of 21-byte records and writes the last meter's page: 100 (no
+/// byte), 102 (a cut record), 101 (the first is not fresh), 1, 4, 5 or 8.
+pub fn replay(records: &[u8], page: &mut [u8]) -> Answer {
+    answer(core::replay(records, page))
+}
+
+/// Whether the reader takes this page: 9, 10 or 11.
+pub fn check(page: &[u8]) -> Answer {
+    answer(core::check(page))
+}
+
+fn answer(number: u32) -> Answer {
+    match number {
+        0 => Ok(()),
+        refusal => Err(refusal),
+    }
+}

@@ -1,0 +1,79 @@
+//! The proved core, linked as `libpillar.a`.
+
+use crate::Settings;
+
+mod c {
+    unsafe extern "C" {
+        pub fn pillar_fresh(
+            page: *mut u8,
+            length: usize,
+            mode: u32,
+            threshold: i32,
+            over: u32,
+            under: u32,
+            clock: u32,
+        ) -> u32;
+
+        pub fn pillar_call(
+            page: *mut u8,
+            length: usize,
+            kind: u32,
+            n1: u32,
+            n2: u32,
+            n3: u32,
+            n4: u32,
+            n5: u32,
+        ) -> u32;
+
+        pub fn pillar_replay(
+            records: *const u8,
+            records_length: usize,
+            page: *mut u8,
+            page_length: usize,
+        ) -> u32;
+
+        pub fn pillar_check(page: *const u8, length: usize) -> u32;
+    }
+}
+
+pub fn fresh(page: &mut [u8], settings: Settings) -> u32 {
+    let Settings {
+        mode,
+        threshold,
+        over,
+        under,
+        clock,
+    } = settings;
+    let length = page.len();
+    // SAFETY: pointer and length are those of one live, exclusive slice.
+    unsafe {
+        c::pillar_fresh(
+            page.as_mut_ptr(),
+            length,
+            mode,
+            threshold,
+            over,
+            under,
+            clock,
+        )
+    }
+}
+
+pub fn call(page: &mut [u8], kind: u32, numbers: [u32; 5]) -> u32 {
+    let [n1, n2, n3, n4, n5] = numbers;
+    let length = page.len();
+    // SAFETY: pointer and length are those of one live, exclusive slice.
+    unsafe { c::pillar_call(page.as_mut_ptr(), length, kind, n1, n2, n3, n4, n5) }
+}
+
+pub fn replay(records: &[u8], page: &mut [u8]) -> u32 {
+    let (length, page_length) = (records.len(), page.len());
+    // SAFETY: both pairs are those of live slices; the page's is exclusive, so
+    // the two don't overlap.
+    unsafe { c::pillar_replay(records.as_ptr(), length, page.as_mut_ptr(), page_length) }
+}
+
+pub fn check(page: &[u8]) -> u32 {
+    // SAFETY: pointer and length are those of one live slice, which is read only.
+    unsafe { c::pillar_check(page.as_ptr(), page.len()) }
+}

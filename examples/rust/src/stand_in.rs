@@ -1,0 +1,39 @@
+//! Plain behind the proved core's functions, so that the programs can run
+//! where `libpillar.a` isn't built. It proves nothing about the core.
+
+use crate::Settings;
+use plain::Meter;
+
+pub fn fresh(page: &mut [u8], settings: Settings) -> u32 {
+    let Settings {
+        mode,
+        threshold,
+        over,
+        under,
+        clock,
+    } = settings;
+    let meter = Meter::fresh(mode, threshold, over, under, clock);
+    number(meter.and_then(|meter| meter.write_page(page)))
+}
+
+pub fn call(page: &mut [u8], kind: u32, numbers: [u32; 5]) -> u32 {
+    number(call_on_page(page, kind, numbers))
+}
+
+pub fn replay(records: &[u8], page: &mut [u8]) -> u32 {
+    number(Meter::replay(records, page))
+}
+
+pub fn check(page: &[u8]) -> u32 {
+    number(Meter::read_page(page).map(|_| ()))
+}
+
+fn call_on_page(page: &mut [u8], kind: u32, numbers: [u32; 5]) -> Result<(), u8> {
+    let mut meter = Meter::read_page(page)?;
+    meter.command(kind, numbers)?;
+    meter.write_page(page)
+}
+
+fn number(answer: Result<(), u8>) -> u32 {
+    answer.err().unwrap_or(0).into()
+}
