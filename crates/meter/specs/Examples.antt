@@ -90,6 +90,7 @@ pub record Examples : Type 0 where
   pub full : logIn (recordAfter builtIn bench (eachSecond 32)) 1 ≡ linesOf 1 1001 32
   pub dropped : logIn (recordAfter builtIn bench (eachSecond 33)) 1 ≡ linesOf 1 1002 32
 
+-- each by computing it
 pub examples : Examples
 unfolding linesFrom recordAfter applied soundMeter soundScalars soundControl soundLimiter soundLogs soundArrays soundLog ownCodes zeroPast padded flat laid listsOf changed newest among every below builtIn lookup besides mayHold switchTable decision modeDecision watched requestResult sampleResult modeResult limiterResult eventResult scriptResult
 examples = record { lines = refl; log = refl; power = refl; taken = refl; refused = refl; full = refl; dropped = refl }

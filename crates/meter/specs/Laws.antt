@@ -27,6 +27,7 @@ answerOf (accepted e) = Accepted
 abbrev pub lastRecord : List Row → Fresh → List Call → Meter
 lastRecord rows f calls = recordAfter rows f (reverse calls)
 
+-- of soundness, answers and refusals, and of whole lists of calls
 pub record Laws (rows : List Row) : Type 0 where
   -- a sound record is the layout of its values, and sound values are those of their layout
   pub record-of-state : (m : Meter) → Sized (m .logs) → soundMeter rows m ≡ true → recordOf (stateOf m) ≡ m

@@ -47,18 +47,22 @@ recordOf v =
       logs = laid (v .logs);
     }
 
--- the scalars with one part replaced
+-- the scalars with another control
 abbrev pub withControl : Scalars → Control → Scalars
 withControl s c = record { control = c; limiter = s .limiter; clock = s .clock; alarms = s .alarms; errors = s .errors }
 
+-- with another limiter
 abbrev pub withLimiter : Scalars → Limiter → Scalars
 withLimiter s l = record { control = s .control; limiter = l; clock = s .clock; alarms = s .alarms; errors = s .errors }
 
+-- with another clock
 abbrev pub withClock : Scalars → ℕ → Scalars
 withClock s t = record { control = s .control; limiter = s .limiter; clock = t; alarms = s .alarms; errors = s .errors }
 
+-- with another alarm register
 abbrev pub withAlarms : Scalars → Register → Scalars
 withAlarms s r = record { control = s .control; limiter = s .limiter; clock = s .clock; alarms = r; errors = s .errors }
 
+-- with another error register
 abbrev pub withErrors : Scalars → Register → Scalars
 withErrors s r = record { control = s .control; limiter = s .limiter; clock = s .clock; alarms = s .alarms; errors = r }

@@ -104,6 +104,7 @@ distinctBytes =
     -- log 3: three lines
     ++ (3 ∷ 0 ∷ 0 ∷ 0 ∷ 4 ∷ 65 ∷ 0 ∷ 0 ∷ 0 ∷ 4 ∷ 64 ∷ 0 ∷ 0 ∷ 0 ∷ 5 ∷ 255 ∷ replicate (29 * 5) 0)))
 
+-- the two pages, and demand 3 of the two traces
 pub record Examples : Type 0 where
   -- the account of the worked example, in the page's layout
   pub worked-page : accountPage (accountOf worked) ≡ workedBytes

@@ -31,6 +31,7 @@ later =
 abbrev pub only : ℕ → List ℕ
 only m = 0 ∷ be 4 m ++ (be 4 3000 ++ (be 4 2 ++ (be 4 3 ++ be 4 1000)))
 
+-- the records of the worked example, the digits, and the answers
 pub record Examples : Type 0 where
   pub settings : settingsIn fresh ≡ bench
   pub calls : callsIn later ≡ benchCalls

@@ -27,6 +27,7 @@ pub record Compared (s t out out′ : List ℕ) : Type 0 where
   pub same-account : pageIn s out ≡ pageIn t out′ → accountIn s ≡ accountIn t
   pub same-page : accountIn s ≡ accountIn t → pageIn s out ≡ pageIn t out′
 
+-- of the input's records, of its run, and of the listing's digits and lines
 pub record Laws : Type 0 where
   -- a record is 21 bytes wide, and what is written as one is read back
   pub record-width : recordFormat .width ≡ 21
