@@ -5,7 +5,8 @@
 //!
 //! [`Meter`] is the record with its fifteen calls. Every call works in place
 //! and answers `Ok(())` or the number of its refusal; a refused call leaves
-//! the record as it was. The quotations in the comments are document 01's.
+//! the record as it was. [`Vectorised`] is the same with a test of the logs that
+//! is tuned for speed. The quotations in the comments are document 01's.
 
 mod events;
 #[cfg(feature = "faults")]
@@ -21,6 +22,7 @@ pub mod refusal;
 pub use list::RECORD;
 pub use log::{LINES, Log};
 pub use meter::{
-    Answer, CONNECTED, DISCONNECT, DISCONNECTED, FRAUD, LONGEST, Machine, Meter, READY, STANDARD,
+    Answer, CONNECTED, DISCONNECT, DISCONNECTED, FRAUD, Faultless, LONGEST, Machine, Meter, READY,
+    STANDARD, Vectorised,
 };
 pub use page::{PAGE, PAIRS};

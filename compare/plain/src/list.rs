@@ -8,7 +8,7 @@ use crate::refusal;
 /// The length of one record of a list.
 pub const RECORD: usize = 21;
 
-impl<const FAULT: u8> Machine<FAULT> {
+impl<const FAULT: u8, const VECTORS: bool> Machine<FAULT, VECTORS> {
     /// Runs a list, its fresh record first, and writes the last meter's page.
     /// Refused calls are passed over, as in the bench program's run.
     ///

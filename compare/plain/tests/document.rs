@@ -1,6 +1,8 @@
 //! Document 01's worked example and page, and the rules around them.
 
-use plain::{CONNECTED, DISCONNECT, DISCONNECTED, LONGEST, Meter, PAGE, READY, STANDARD, refusal};
+use plain::{
+    CONNECTED, DISCONNECT, DISCONNECTED, LONGEST, Meter, PAGE, READY, STANDARD, Vectorised, refusal,
+};
 
 const FRESH: (u32, [u32; 5]) = (0, [5, 3000, 2, 3, 1000]);
 
@@ -197,7 +199,9 @@ fn the_reader_refuses_in_order() {
     let read = |change: &dyn Fn(&mut [u8; PAGE])| {
         let mut page = good;
         change(&mut page);
-        Meter::read_page(&page).err().unwrap_or(0)
+        let answer = Meter::read_page(&page).err();
+        assert_eq!(Vectorised::read_page(&page).err(), answer);
+        answer.unwrap_or(0)
     };
     assert_eq!(read(&|_| ()), 0);
     assert_eq!(read(&|page| page[3] = 7), 10);
@@ -220,6 +224,21 @@ fn the_reader_refuses_in_order() {
     assert_eq!(read(&|page| page[557] = 255), 11);
     assert_eq!(Meter::read_page(&good[..557]), Err(refusal::LENGTH));
     assert_eq!(Meter::read_page(&[0; 559]), Err(refusal::LENGTH));
+}
+
+/// Wherever the byte stands, and with either test of the logs.
+#[test]
+fn the_reader_refuses_any_byte_past_the_lines() {
+    let (meter, _) = worked();
+    let good = page_of(&meter);
+    let past = (76..236).chain(237..397).chain(433..PAGE);
+    for place in past {
+        let mut page = good;
+        page[place] = 64;
+        let refused = Some(refusal::UNSOUND_PAGE);
+        assert_eq!(Meter::read_page(&page).err(), refused, "byte {place}");
+        assert_eq!(Vectorised::read_page(&page).err(), refused, "byte {place}");
+    }
 }
 
 #[test]

@@ -3,8 +3,8 @@
 //! the further rounds cost.
 
 use crate::item::Item;
-use crate::side::Side;
-use crate::table;
+use crate::side::{SIDES, Sides};
+use crate::table::{self, Unit};
 use std::io::{Error, ErrorKind};
 use std::process::{Command, ExitCode};
 
@@ -14,17 +14,22 @@ pub const COUNTED: &str = "--counted";
 /// How many operations the further rounds have at least.
 const OPERATIONS: usize = 300;
 
-pub fn run(items: &[Item], sides: [&dyn Side; 2]) -> ExitCode {
+const UNIT: Unit = Unit {
+    name: "instructions",
+    decimals: 0,
+};
+
+pub fn run(items: &[Item], sides: Sides) -> ExitCode {
     match Command::new("valgrind").arg("--version").output() {
         Err(error) if error.kind() == ErrorKind::NotFound => {
             println!("valgrind is not installed: no instructions are counted");
             return ExitCode::SUCCESS;
         }
-        _ => table::print_head(sides, "instr."),
+        _ => table::print_head(sides, &UNIT),
     }
     for (place, item) in items.iter().enumerate() {
         match instructions(place, item) {
-            Ok(counts) => table::print_row(item, counts),
+            Ok(counts) => table::print_row(item, counts, &UNIT),
             Err(error) => {
                 println!("'{}' was not counted: {error}", item.name);
                 return ExitCode::FAILURE;
@@ -35,7 +40,7 @@ pub fn run(items: &[Item], sides: [&dyn Side; 2]) -> ExitCode {
 }
 
 /// One run that is counted.
-pub fn run_counted(items: &[Item], sides: [&dyn Side; 2], words: &[&str]) -> Option<ExitCode> {
+pub fn run_counted(items: &[Item], sides: Sides, words: &[&str]) -> Option<ExitCode> {
     let [place, side, rounds] = words else {
         return None;
     };
@@ -45,18 +50,18 @@ pub fn run_counted(items: &[Item], sides: [&dyn Side; 2], words: &[&str]) -> Opt
     Some(ExitCode::SUCCESS)
 }
 
-/// The instructions per operation of both sides.
-fn instructions(place: usize, item: &Item) -> Result<[f64; 2], Error> {
+/// The instructions per operation of each side.
+fn instructions(place: usize, item: &Item) -> Result<[f64; SIDES], Error> {
     let further = OPERATIONS.div_ceil(item.operations) as u32;
-    let mut counts = [0.0; 2];
-    let mut digests = [String::new(), String::new()];
-    for side in 0..2 {
+    let mut counts = [0.0; SIDES];
+    let mut digests = [const { String::new() }; SIDES];
+    for side in 0..SIDES {
         let (few, _) = counted(place, side, 1)?;
         let (many, digest) = counted(place, side, 1 + further)?;
         counts[side] = (many - few) / item.operations_in(further);
         digests[side] = digest;
     }
-    if digests[0] != digests[1] {
+    if digests.iter().any(|digest| *digest != digests[0]) {
         return Err(Error::other("the digests differ"));
     }
     Ok(counts)

@@ -1,5 +1,6 @@
-//! Measures plain and the proved core on the same jobs and prints what each
-//! costs, with the ratio: the shortest time of many, or exact instructions.
+//! Measures the proved core and plain, idiomatic and vectorised, on the same jobs
+//! and prints what each costs, with the ratios: the shortest time of many, or
+//! exact instructions.
 
 mod instructions;
 mod item;
@@ -13,7 +14,7 @@ mod timing;
 
 use plain_side::Plain;
 use proved_side::Proved;
-use side::Side;
+use side::Sides;
 use std::process::ExitCode;
 
 const TIMINGS: usize = 200;
@@ -22,7 +23,7 @@ const QUICK_TIMINGS: usize = 20;
 fn main() -> ExitCode {
     let arguments: Vec<_> = std::env::args().skip(1).collect();
     let words: Vec<_> = arguments.iter().map(String::as_str).collect();
-    let sides: [&dyn Side; 2] = [&Plain, &Proved];
+    let sides: Sides = [&Proved, &Plain::<false>, &Plain::<true>];
     let items = item::items();
     let ended = match words[..] {
         [] => Some(timing::run(&items, sides, TIMINGS)),

@@ -21,32 +21,36 @@ mod c {
     }
 }
 
-pub fn calls(page: &mut Page, records: &[u8], rounds: u32) -> u32 {
-    let (length, records_length) = (page.len(), records.len());
-    // SAFETY: both pairs are those of live slices; the page's is exclusive, so
-    // the two don't overlap.
-    unsafe {
-        c::measure_calls(
-            page.as_mut_ptr(),
-            length,
-            records.as_ptr(),
-            records_length,
-            rounds,
-        )
+pub struct Measure;
+
+impl Measure {
+    pub fn calls(&self, page: &mut Page, records: &[u8], rounds: u32) -> u32 {
+        let (length, records_length) = (page.len(), records.len());
+        // SAFETY: both pairs are those of live slices; the page's is exclusive, so
+        // the two don't overlap.
+        unsafe {
+            c::measure_calls(
+                page.as_mut_ptr(),
+                length,
+                records.as_ptr(),
+                records_length,
+                rounds,
+            )
+        }
     }
-}
 
-pub fn sound(page: &Page, rounds: u32) -> u32 {
-    // SAFETY: pointer and length are those of one live slice, which is read only.
-    unsafe { c::measure_sound(page.as_ptr(), page.len(), rounds) }
-}
+    pub fn sound(&self, page: &Page, rounds: u32) -> u32 {
+        // SAFETY: pointer and length are those of one live slice, which is read only.
+        unsafe { c::measure_sound(page.as_ptr(), page.len(), rounds) }
+    }
 
-pub fn write(page: &mut Page, rounds: u32) -> u32 {
-    // SAFETY: pointer and length are those of one live, exclusive slice.
-    unsafe { c::measure_write(page.as_mut_ptr(), page.len(), rounds) }
-}
+    pub fn write(&self, page: &mut Page, rounds: u32) -> u32 {
+        // SAFETY: pointer and length are those of one live, exclusive slice.
+        unsafe { c::measure_write(page.as_mut_ptr(), page.len(), rounds) }
+    }
 
-pub fn read(page: &mut Page, rounds: u32) -> u32 {
-    // SAFETY: pointer and length are those of one live, exclusive slice.
-    unsafe { c::measure_read(page.as_mut_ptr(), page.len(), rounds) }
+    pub fn read(&self, page: &mut Page, rounds: u32) -> u32 {
+        // SAFETY: pointer and length are those of one live, exclusive slice.
+        unsafe { c::measure_read(page.as_mut_ptr(), page.len(), rounds) }
+    }
 }

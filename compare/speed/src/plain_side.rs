@@ -1,90 +1,75 @@
-//! Plain, the reference implementation: the same loops as the proved core's.
+//! Plain, the reference implementation, with either test of the logs: the same
+//! loops as the proved core's.
 
 use crate::side::{Call, Page, Side};
-use plain::{Answer, Meter};
+use plain::{Answer, Faultless};
 use std::hint::black_box;
 
 /// Where the page has the last byte of the clock.
 const CLOCK_END: usize = 58;
 
-pub struct Plain;
+pub struct Plain<const VECTORS: bool>;
 
-impl Side for Plain {
+impl<const VECTORS: bool> Side for Plain<VECTORS> {
     fn name(&self) -> &'static str {
-        "plain"
+        if VECTORS { "vectorised" } else { "idiomatic" }
     }
 
     fn calls(&self, page: &mut Page, records: &[u8], rounds: u32) -> u32 {
-        calls(page, records, rounds)
+        let mut meter = match Faultless::<VECTORS>::read_page(page) {
+            Ok(meter) => meter,
+            Err(refusal) => return refusal.into(),
+        };
+        for _ in 0..rounds {
+            meter.run(black_box(records));
+        }
+        number(meter.write_page(page))
     }
 
     fn sound(&self, page: &Page, rounds: u32) -> u32 {
-        sound(page, rounds)
+        let mut meter = Faultless::<VECTORS>::read_page(page).unwrap_or_default();
+        let mut sound = 0;
+        for round in 0..rounds {
+            meter.clock = round;
+            sound += u32::from(black_box(&meter).sound());
+        }
+        sound
     }
 
     fn write(&self, page: &mut Page, rounds: u32) -> u32 {
-        write(page, rounds)
+        let mut meter = Faultless::<VECTORS>::read_page(page).unwrap_or_default();
+        let mut accepted = 0;
+        for round in 0..rounds {
+            meter.clock = round;
+            let answer = black_box(&meter).write_page(black_box(page));
+            accepted += u32::from(answer.is_ok());
+        }
+        accepted
     }
 
     fn read(&self, page: &mut Page, rounds: u32) -> u32 {
-        read(page, rounds)
+        let mut accepted = 0;
+        for round in 0..rounds {
+            page[CLOCK_END] = round as u8;
+            let read = Faultless::<VECTORS>::read_page(black_box(page));
+            accepted += u32::from(black_box(&read).is_ok());
+        }
+        accepted
     }
 
     fn call_on_page(&self, page: &mut Page, call: Call, rounds: u32) -> u32 {
-        let answer = |_| number(call_on_page(black_box(page), call));
+        let answer = |_| number(call_on_page::<VECTORS>(black_box(page), call));
         (0..rounds).map(answer).sum()
     }
 
     fn replay(&self, list: &[u8], page: &mut Page, rounds: u32) -> u32 {
-        let answer = |_| number(Meter::replay(black_box(list), page));
+        let answer = |_| number(Faultless::<VECTORS>::replay(black_box(list), page));
         (0..rounds).map(answer).sum()
     }
 }
 
-pub fn calls(page: &mut Page, records: &[u8], rounds: u32) -> u32 {
-    let mut meter = match Meter::read_page(page) {
-        Ok(meter) => meter,
-        Err(refusal) => return refusal.into(),
-    };
-    for _ in 0..rounds {
-        meter.run(black_box(records));
-    }
-    number(meter.write_page(page))
-}
-
-pub fn sound(page: &Page, rounds: u32) -> u32 {
-    let mut meter = Meter::read_page(page).unwrap_or_default();
-    let mut sound = 0;
-    for round in 0..rounds {
-        meter.clock = round;
-        sound += u32::from(black_box(&meter).sound());
-    }
-    sound
-}
-
-pub fn write(page: &mut Page, rounds: u32) -> u32 {
-    let mut meter = Meter::read_page(page).unwrap_or_default();
-    let mut accepted = 0;
-    for round in 0..rounds {
-        meter.clock = round;
-        let answer = black_box(&meter).write_page(black_box(page));
-        accepted += u32::from(answer.is_ok());
-    }
-    accepted
-}
-
-pub fn read(page: &mut Page, rounds: u32) -> u32 {
-    let mut accepted = 0;
-    for round in 0..rounds {
-        page[CLOCK_END] = round as u8;
-        let read = Meter::read_page(black_box(page));
-        accepted += u32::from(black_box(&read).is_ok());
-    }
-    accepted
-}
-
-fn call_on_page(page: &mut Page, call: Call) -> Answer {
-    let mut meter = Meter::read_page(page)?;
+fn call_on_page<const VECTORS: bool>(page: &mut Page, call: Call) -> Answer {
+    let mut meter = Faultless::<VECTORS>::read_page(page)?;
     meter.command(call.kind, call.numbers)?;
     meter.write_page(page)
 }

@@ -1,13 +1,15 @@
 //! The proved core: its loops on a record in memory, and its C interface, whose
 //! state is the page.
 
-#[cfg(not(feature = "stand-in"))]
-use crate::measure;
-#[cfg(feature = "stand-in")]
-use crate::plain_side as measure;
 use crate::side::{Call, Page, Side};
 use pillar::Answer;
 use std::hint::black_box;
+
+/// What runs the loops on a record.
+#[cfg(not(feature = "stand-in"))]
+const LOOPS: crate::measure::Measure = crate::measure::Measure;
+#[cfg(feature = "stand-in")]
+const LOOPS: crate::plain_side::Plain<false> = crate::plain_side::Plain;
 
 pub struct Proved;
 
@@ -20,19 +22,19 @@ impl Side for Proved {
     }
 
     fn calls(&self, page: &mut Page, records: &[u8], rounds: u32) -> u32 {
-        measure::calls(page, records, rounds)
+        LOOPS.calls(page, records, rounds)
     }
 
     fn sound(&self, page: &Page, rounds: u32) -> u32 {
-        measure::sound(page, rounds)
+        LOOPS.sound(page, rounds)
     }
 
     fn write(&self, page: &mut Page, rounds: u32) -> u32 {
-        measure::write(page, rounds)
+        LOOPS.write(page, rounds)
     }
 
     fn read(&self, page: &mut Page, rounds: u32) -> u32 {
-        measure::read(page, rounds)
+        LOOPS.read(page, rounds)
     }
 
     fn call_on_page(&self, page: &mut Page, call: Call, rounds: u32) -> u32 {

@@ -10,6 +10,10 @@ pub struct Call {
     pub numbers: [u32; 5],
 }
 
+/// The proved core first, then those that it is measured against.
+pub type Sides<'a> = [&'a dyn Side; SIDES];
+pub const SIDES: usize = 3;
+
 /// One core. Each job does its work in `rounds` rounds and answers a number
 /// that tells whether it was done; the page lent shows what was done.
 pub trait Side {

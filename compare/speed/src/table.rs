@@ -1,17 +1,31 @@
-//! The table: an item, what it costs on each side, and the ratio.
+//! The table, in Markdown: an item, what it costs on each side, and the cost of
+//! the first, the proved core, over that of each other.
 
 use crate::item::Item;
-use crate::side::Side;
+use crate::side::{SIDES, Sides};
 
-pub fn print_head(sides: [&dyn Side; 2], unit: &str) {
-    let [plain, proved] = sides.map(|side| format!("{} {unit}", side.name()));
-    println!("{:<30} {plain:>14} {proved:>14} {:>8}", "item", "ratio");
+/// What the costs are counted in, and with how many decimals they are printed.
+pub struct Unit {
+    pub name: &'static str,
+    pub decimals: usize,
 }
 
-pub fn print_row(item: &Item, [plain, proved]: [f64; 2]) {
-    let ratio = proved / plain;
-    println!(
-        "{:<30} {plain:>14.1} {proved:>14.1} {ratio:>8.2}",
-        item.name
-    );
+pub fn print_head(sides: Sides, unit: &Unit) {
+    let [proved, others @ ..] = sides.map(|side| side.name());
+    let costs = sides.map(|side| format!("{}, {}", side.name(), unit.name));
+    let ratios = others.map(|other| format!("{proved} / {other}"));
+    print_line("", costs.iter().chain(&ratios));
+    println!("|{}", "---|".repeat(1 + costs.len() + ratios.len()));
+}
+
+pub fn print_row(item: &Item, costs: [f64; SIDES], unit: &Unit) {
+    let [proved, others @ ..] = costs;
+    let costs = costs.map(|cost| format!("{cost:.*}", unit.decimals));
+    let ratios = others.map(|other| format!("{:.2}", proved / other));
+    print_line(&item.name, costs.iter().chain(&ratios));
+}
+
+fn print_line<'a>(name: &str, cells: impl Iterator<Item = &'a String>) {
+    let cells: String = cells.map(|cell| format!(" {cell} |")).collect();
+    println!("| {name} |{cells}");
 }

@@ -1,8 +1,8 @@
-//! Times both sides in interleaved rounds.
+//! Times the sides in interleaved rounds.
 
 use crate::item::{Item, LENGTHS, mixed_name};
-use crate::side::Side;
-use crate::table;
+use crate::side::{SIDES, Sides};
+use crate::table::{self, Unit};
 use std::process::ExitCode;
 use std::time::{Duration, Instant};
 
@@ -12,13 +12,18 @@ const ATTEMPTS: usize = 5;
 /// More than this from the shortest to the longest list counts as growth.
 const GROWTH: f64 = 1.5;
 
+const UNIT: Unit = Unit {
+    name: "ns",
+    decimals: 1,
+};
+
 /// The shortest time of each side.
-type Best = [Duration; 2];
+type Best = [Duration; SIDES];
 
 /// Prints the table of the shortest times, and fails where the results of the
-/// two sides differ or the cost of a record grows with its list.
-pub fn run(items: &[Item], sides: [&dyn Side; 2], timings: usize) -> ExitCode {
-    let mut bests = vec![[Duration::MAX; 2]; items.len()];
+/// sides differ or the cost of a record grows with its list.
+pub fn run(items: &[Item], sides: Sides, timings: usize) -> ExitCode {
+    let mut bests = vec![[Duration::MAX; SIDES]; items.len()];
     // A busy machine can make long lists look dear: then measure once more.
     for _ in 0..ATTEMPTS {
         if let Err(item) = measure(items, sides, timings, &mut bests) {
@@ -29,12 +34,12 @@ pub fn run(items: &[Item], sides: [&dyn Side; 2], timings: usize) -> ExitCode {
             break;
         }
     }
-    table::print_head(sides, "ns");
+    table::print_head(sides, &UNIT);
     for (item, best) in items.iter().zip(&bests) {
-        table::print_row(item, best.map(|time| nanoseconds(item, time)));
+        table::print_row(item, best.map(|time| nanoseconds(item, time)), &UNIT);
     }
     print_growth(items, sides, &bests);
-    println!("the digests of both sides agree");
+    println!("the digests of all sides agree");
     if !steady(items, &bests) {
         println!("GROWS: the cost of a record grows with the list");
         return ExitCode::FAILURE;
@@ -42,24 +47,24 @@ pub fn run(items: &[Item], sides: [&dyn Side; 2], timings: usize) -> ExitCode {
     ExitCode::SUCCESS
 }
 
-/// Times every item on both sides, `timings` times over, the sides taking turns
+/// Times every item on each side, `timings` times over, the sides taking turns
 /// to be first. Stops at an item whose results differ.
 fn measure<'a>(
     items: &'a [Item],
-    sides: [&dyn Side; 2],
+    sides: Sides,
     timings: usize,
     bests: &mut [Best],
 ) -> Result<(), &'a Item> {
     for timing in 0..timings {
         for (item, best) in items.iter().zip(&mut *bests) {
-            let mut digests = [0; 2];
-            for turn in 0..2 {
-                let side = (timing + turn) % 2;
+            let mut digests = [0; SIDES];
+            for turn in 0..SIDES {
+                let side = (timing + turn) % SIDES;
                 let start = Instant::now();
                 digests[side] = item.run(sides[side], item.rounds);
                 best[side] = best[side].min(start.elapsed());
             }
-            if digests[0] != digests[1] {
+            if digests != [digests[0]; SIDES] {
                 return Err(item);
             }
         }
@@ -69,12 +74,10 @@ fn measure<'a>(
 
 /// The cost of a record must not grow with the list's length.
 fn steady(items: &[Item], bests: &[Best]) -> bool {
-    [0, 1]
-        .iter()
-        .all(|&side| growth(items, bests, side) < GROWTH)
+    (0..SIDES).all(|side| growth(items, bests, side) < GROWTH)
 }
 
-fn print_growth(items: &[Item], sides: [&dyn Side; 2], bests: &[Best]) {
+fn print_growth(items: &[Item], sides: Sides, bests: &[Best]) {
     let [shortest, .., longest] = LENGTHS;
     for (place, side) in sides.iter().enumerate() {
         let growth = growth(items, bests, place);
