@@ -7,6 +7,7 @@ use crate::side::{SIDES, Sides};
 use crate::table::{self, Unit};
 use std::io::{Error, ErrorKind};
 use std::process::{Command, ExitCode};
+use std::thread;
 
 /// The first argument of a run that is counted: then item, side and rounds.
 pub const COUNTED: &str = "--counted";
@@ -39,14 +40,18 @@ pub fn run(items: &[Item], sides: Sides) -> ExitCode {
     ExitCode::SUCCESS
 }
 
-/// One run that is counted.
+/// One run that is counted. It has a thread, whose stack begins at a page: on the
+/// first stack the length of the environment shifts the record, and copies cost
+/// by their alignment.
 pub fn run_counted(items: &[Item], sides: Sides, words: &[&str]) -> Option<ExitCode> {
     let [place, side, rounds] = words else {
         return None;
     };
     let item = items.get(place.parse::<usize>().ok()?)?;
     let side = sides.get(side.parse::<usize>().ok()?)?;
-    println!("{:016x}", item.run(*side, rounds.parse().ok()?));
+    let rounds = rounds.parse().ok()?;
+    let run = thread::scope(|scope| scope.spawn(|| item.run(*side, rounds)).join());
+    println!("{:016x}", run.ok()?);
     Some(ExitCode::SUCCESS)
 }
 

@@ -16,7 +16,7 @@ pub const SIDES: usize = 3;
 
 /// One core. Each job does its work in `rounds` rounds and answers a number
 /// that tells whether it was done; the page lent shows what was done.
-pub trait Side {
+pub trait Side: Sync {
     fn name(&self) -> &'static str;
 
     /// Reads the page, runs the records of a list as calls from record to
