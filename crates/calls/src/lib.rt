@@ -1,6 +1,6 @@
 // The calls that a meter takes, its answers, and the reading of a command: a kind and five numbers.
 ghost use mathlib.Core.Path.{_≡_};
-ghost use Rattle.calls.specs.Calls.{signedOf, callOf};
+ghost use Rattle.calls.specs.Calls.{answerNumber, signedOf, callOf};
 
 // A call with its numbers, which stay 32 bits wide until they are judged.
 pub enum Call {
@@ -31,6 +31,18 @@ pub enum Answer {
     Accepted,
     // The number of the refusal.
     Refused(u8),
+}
+
+impl Answer {
+    // 0, or the number of the refusal.
+    pub fn number(self) -> u8
+        ensures { λ r. ⌜ r ≡ answerNumber self ⌝ }
+    {
+        match self {
+            Answer::Accepted => 0,
+            Answer::Refused(number) => number,
+        }
+    }
 }
 
 // What a kind and its numbers name.

@@ -3,7 +3,6 @@
 // answers 0 or the number of a refusal, and a refusal leaves every byte. `include/pillar.h` declares
 // them.
 ghost use mathlib.Core.Path.{_≡_};
-ghost use Rattle.calls.specs.Calls.{answerNumber};
 ghost use Rattle.replay.specs.Replay.{replayAnswer, replayed};
 ghost use Rattle.pillar.specs.Interface.{keptAnswer, keptPage, freshAnswer, freshPage, callAnswer, callPage, replayNumber, checkAnswer};
 use calls::Answer;
@@ -11,17 +10,7 @@ use meter::Meter;
 use meter::Outcome;
 use replay::Replayed;
 
-// 0, or the number of the refusal.
-fn number(answer: Answer) -> u32
-    ensures { λ r. ⌜ r ≡ answerNumber answer ⌝ }
-{
-    match answer {
-        Answer::Accepted => 0,
-        Answer::Refused(number) => number as u32,
-    }
-}
-
-// The same of a whole input: numbers above every refusal's for what document 01 prints as words.
+// 0, or the number of what became of a whole input: above every refusal's for what document 01 prints as words.
 fn replayed_number(replayed: Replayed) -> u32
     ensures { λ r. ⌜ r ≡ replayNumber replayed ⌝ }
 {
@@ -42,7 +31,7 @@ fn keep(outcome: Outcome, page: &mut [u8]) -> u32
     if let Answer::Refused(number) = answer {
         return number as u32;
     }
-    number(page::write_page(outcome.meter, page))
+    page::write_page(outcome.meter, page).number() as u32
 }
 
 // Writes the page of a fresh meter into the first 558 bytes: 1 for a mode above 6, 4 if the threshold
@@ -101,5 +90,5 @@ pub extern "C" fn pillar_check(page: &[u8]) -> u32
 {
     let read = page::read_page(page);
     let answer = read.answer;
-    number(answer)
+    answer.number() as u32
 }

@@ -2,21 +2,9 @@
 ghost use mathlib.Core.Path.{_≡_};
 ghost use Prim.Native.Nat.{_-_, _≤_};
 ghost use lib.ListN.{length};
-ghost use Rattle.calls.specs.Calls.{answerNumber};
 ghost use Rattle.replay.specs.Listing.{field, lineBytes, atEnd, storedBefore, lineOf};
 use crate::Line;
-use calls::Answer;
 use meter::Outcome;
-
-// The number that a line prints for an answer: 0, or that of the refusal.
-fn refusal(answer: Answer) -> u8
-    ensures { λ r. ⌜ r ≡ answerNumber answer ⌝ }
-{
-    match answer {
-        Answer::Accepted => 0,
-        Answer::Refused(number) => number,
-    }
-}
 
 // Stores a number's decimal digits, and a byte behind them, just before `end`, and answers the place
 // of the first digit.
@@ -55,5 +43,5 @@ pub fn line_of(position: u64, outcome: Outcome) -> Line
 {
     let control = outcome.meter.control;
     let answer = outcome.answer;
-    line_with(position, refusal(answer), control.state, control.openings)
+    line_with(position, answer.number(), control.state, control.openings)
 }

@@ -23,6 +23,9 @@ write-page-requires c κs = search needs
 number-requires : tie.Need-number-requires
 number-requires c κs = search needs
 
+cast-result-2 : tie.Need-cast-result-2
+cast-result-2 c = search needs
+
 same-length : tie.Need-same-length
 same-length c = search needs
 
@@ -41,5 +44,6 @@ keep-spec =
     enum-told
     write-page-requires
     number-requires
+    cast-result-2
     same-length
     returns-2)

@@ -13,8 +13,11 @@ read-page-requires c κs = search needs
 number-requires : tie.Need-number-requires
 number-requires c κs = search needs
 
+cast-result : tie.Need-cast-result
+cast-result c = search needs
+
 returns : tie.Need-returns
 returns c = c .number .ensures ∙ ap (λ (o : Outcome). answerNumber (o .answer)) (c .before .read-page .ensures)
 
 pub pillar-check-spec : {M : Type 1} → statement M
-pillar-check-spec = tie.close (tie.spec read-page-requires number-requires returns)
+pillar-check-spec = tie.close (tie.spec read-page-requires number-requires cast-result returns)
