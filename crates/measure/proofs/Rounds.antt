@@ -1,11 +1,14 @@
 -- Rounds of calls, as the code comes to them: one round more, and the reader's and the writer's answers.
 -- Assumes nothing.
-use mathlib.Core.Path.{_≡_, sym, ap, _∙_}
+use mathlib.Core.Path.{_≡_, refl, sym, ap, _∙_}
+use mathlib.Core.Bool.{Bool, true, false, cond}
 use mathlib.Core.List.{List}
-use Prim.Native.Nat.{ℕ, suc, _-_, _<_}
-use native.Mathlib.Nat.{sub-zero}
+use Prim.Native.Nat.{ℕ, zero, suc, _+_, _-_, _<_, _≤_}
+use native.Mathlib.Numerals.{add-one}
 use native.Mathlib.Omega.{arith}
-use Rattle.codec.specs.Format.{decs}
+use lib.Dec.{ltb}
+use lib.ListN.{length, length-set}
+use lib.Seq.{set-set}
 use Rattle.calls.specs.declared.Answer.{Answer}
 use Rattle.calls.specs.declared.Answer.the-variants.{Accepted, Refused}
 use Rattle.calls.specs.Calls.{answerNumber}
@@ -13,13 +16,8 @@ use Rattle.meter.specs.declared.Meter.{Meter}
 use Rattle.meter.specs.declared.Outcome.{Outcome}
 use Rattle.page.specs.Layout.{writeAnswer, written, readOf}
 use Rattle.replay.specs.declared.Record.{Record}
-use Rattle.replay.specs.Input.{recordFormat}
-use Rattle.replay.specs.Replay.{runFrom}
-use Rattle.measure.specs.Rounds.{recordsIn, roundsFrom, callsAnswer, callsPage}
-
--- before the first record, all are left
-pub all-records : (m : Meter) (s : List ℕ) (n : ℕ) → runFrom m (decs recordFormat (n - 0) s 0) ≡ runFrom m (decs recordFormat n s 0)
-all-records m s n = ap (λ (k : ℕ). runFrom m (decs recordFormat k s 0)) (sub-zero n)
+use Rattle.replay.specs.Replay.{recordsFrom, runFrom}
+use Rattle.measure.specs.Rounds.{roundsFrom, callsAnswer, callsPage, passing, inRound, writtenRounds, pageInRound, pageAfter}
 
 pub next-round : (n : ℕ) (m : Meter) (rs : List Record) → 0 < n → roundsFrom (n - 1) (runFrom m rs) rs ≡ roundsFrom n m rs
 unfolding roundsFrom
@@ -38,13 +36,59 @@ module _ (page s : List ℕ) (n : ℕ) (read : Outcome) (reads : read ≡ readOf
       let refused : readOf page .answer ≡ Refused r = ap (λ (o : Outcome). o .answer) (sym reads) ∙ e in
       (rw refused, rw refused)
 
-  pub rounds-written : (r : ℕ) (m : Meter) (a : Answer) (after : List ℕ) → read .answer ≡ Accepted → m ≡ roundsFrom n (read .meter) (recordsIn s)
+  pub rounds-written : (r : ℕ) (m : Meter) (a : Answer) (after : List ℕ) → read .answer ≡ Accepted → m ≡ roundsFrom n (read .meter) (recordsFrom 0 s)
       → (a ≡ writeAnswer m page) × (after ≡ written m page) → r ≡ answerNumber a
       → (r ≡ callsAnswer page s n) × (after ≡ callsPage page s n)
   unfolding callsAnswer callsPage
   rounds-written r m a after e runs wrote number =
       let accepted : readOf page .answer ≡ Accepted = ap (λ (o : Outcome). o .answer) (sym reads) ∙ e in
-      let last : m ≡ roundsFrom n (readOf page .meter) (recordsIn s) = runs ∙ ap (λ (o : Outcome). roundsFrom n (o .meter) (recordsIn s)) reads in (
+      let last : m ≡ roundsFrom n (readOf page .meter) (recordsFrom 0 s) = runs ∙ ap (λ (o : Outcome). roundsFrom n (o .meter) (recordsFrom 0 s)) reads in (
         rw accepted (number ∙ ap answerNumber (wrote .0) ∙ ap (λ (m : Meter). answerNumber (writeAnswer m page)) last),
         rw accepted (wrote .1 ∙ ap (λ (m : Meter). written m page) last),
       )
+
+-- ---- rounds of one function: one more, and no more than there are
+
+passing-most : (n : ℕ) (test : ℕ → Bool) → passing n test ≤ n
+unfolding passing
+passing-most zero test = omega arith
+passing-most (suc n) test = go (test n) (passing-most n test)
+  where
+    go : (b : Bool) → passing n test ≤ n → passing n test + cond b 1 0 ≤ suc n
+    go true h = omega arith
+    go false h = omega arith
+
+pub passing-room : (n k r : ℕ) (test : ℕ → Bool) (b : Bool) → k ≡ passing n test → r ≡ cond b 1 0 → k + r ≤ n + 1
+passing-room n k r test true so-far adds = omega (arith, passing-most n test)
+passing-room n k r test false so-far adds = omega (arith, passing-most n test)
+
+pub next-passing : (n k r : ℕ) (test : ℕ → Bool) (b : Bool) → k ≡ passing n test → r ≡ cond b 1 0 → b ≡ test n → k + r ≡ passing (n + 1) test
+unfolding passing
+next-passing n k r test b so-far adds passes = rw (so-far, adds, passes, add-one n)
+
+-- a meter in a round, whatever its clock was before
+pub same-round : (m n : Meter) (i : ℕ) → inRound m 0 ≡ inRound n 0 → inRound m i ≡ inRound n i
+same-round m n i e = ap (λ (x : Meter). inRound x i) e
+
+pub next-written : (m : Meter) (page : List ℕ) (n : ℕ) → written (inRound m n) (writtenRounds m page n) ≡ writtenRounds m page (n + 1)
+unfolding writtenRounds
+next-written m page n = rw (add-one n)
+
+-- the writer asks for the buffer's length alone
+pub answer-by-length : (m : Meter) (s t : List ℕ) → length s ≡ length t → writeAnswer m s ≡ writeAnswer m t
+unfolding writeAnswer
+answer-by-length m s t e = rw e
+
+-- the round before has changed that byte alone
+pub next-page : (page : List ℕ) (n : ℕ) → pageInRound (pageAfter page n) n ≡ pageInRound page n
+unfolding pageAfter
+next-page page zero = refl
+next-page page (suc n) = go (ltb 58 (length page)) refl
+  where
+    go : (b : Bool) → ltb 58 (length page) ≡ b → pageInRound (pageInRound page n) (suc n) ≡ pageInRound page (suc n)
+    go true e = rw (e, length-set, e, set-set)
+    go false e = rw (e, e)
+
+pub after-round : (page : List ℕ) (n : ℕ) → pageInRound page n ≡ pageAfter page (n + 1)
+unfolding pageAfter
+after-round page n = rw (add-one n)

@@ -1,20 +1,20 @@
--- Many rounds of calls on one meter, as a benchmark runs them.
+-- Many rounds of the same work on the meter of one page, as a benchmark runs them.
+use mathlib.Core.Bool.{Bool, cond}
 use mathlib.Core.List.{List}
-use Prim.Native.Nat.{ℕ, zero, suc, _/_}
-use lib.ListN.{length}
-use Rattle.codec.specs.Format.{decs}
+use Prim.Native.Nat.{ℕ, zero, suc, _+_, _%_}
+use lib.Dec.{eqb, ltb}
+use lib.ListN.{length, set}
+use Rattle.events.specs.Table.{builtIn}
 use Rattle.calls.specs.declared.Answer.{Answer}
 use Rattle.calls.specs.declared.Answer.the-variants.{Accepted, Refused}
 use Rattle.calls.specs.Calls.{answerNumber}
 use Rattle.meter.specs.declared.Meter.{Meter}
+use Rattle.meter.specs.Sound.{soundMeter}
 use Rattle.page.specs.Layout.{writeAnswer, written, readOf}
 use Rattle.replay.specs.declared.Record.{Record}
-use Rattle.replay.specs.Input.{recordFormat}
-use Rattle.replay.specs.Replay.{recordLength, runFrom}
+use Rattle.replay.specs.Replay.{recordsFrom, runFrom}
 
--- the whole records of a list, in order
-abbrev pub recordsIn : List ℕ → List Record
-recordsIn s = decs recordFormat (length s / recordLength) s 0
+-- ---- rounds of calls
 
 -- the meter after n rounds of all the records
 unfoldable pub roundsFrom : ℕ → Meter → List Record → Meter
@@ -33,8 +33,50 @@ pageBehind (Refused n) m page = page
 
 -- n rounds on the meter of a page: the answer
 unfoldable pub callsAnswer : List ℕ → List ℕ → ℕ → ℕ
-callsAnswer page s n = answerBehind (readOf page .answer) (roundsFrom n (readOf page .meter) (recordsIn s)) page
+callsAnswer page s n = answerBehind (readOf page .answer) (roundsFrom n (readOf page .meter) (recordsFrom 0 s)) page
 
 -- and the page
 unfoldable pub callsPage : List ℕ → List ℕ → ℕ → List ℕ
-callsPage page s n = pageBehind (readOf page .answer) (roundsFrom n (readOf page .meter) (recordsIn s)) page
+callsPage page s n = pageBehind (readOf page .answer) (roundsFrom n (readOf page .meter) (recordsFrom 0 s)) page
+
+-- ---- rounds of one function
+
+-- how many of the first n rounds pass a test
+unfoldable pub passing : ℕ → (ℕ → Bool) → ℕ
+passing zero test = 0
+passing (suc n) test = passing n test + cond (test n) 1 0
+
+-- an answer that is no refusal
+abbrev pub isAccepted : Answer → Bool
+isAccepted a = eqb (answerNumber a) 0
+
+-- a meter in round i: its clock is the round
+abbrev pub inRound : Meter → ℕ → Meter
+inRound m i =
+    record { control = m .control; limiter = m .limiter; clock = i; alarms = m .alarms; errors = m .errors; logs = m .logs }
+
+-- the soundness test: how often the meter of a page is sound
+abbrev pub soundRounds : List ℕ → ℕ → ℕ
+soundRounds page n = passing n (λ i. soundMeter builtIn (inRound (readOf page .meter) i))
+
+-- the writer, each time into the bytes that it left: how often it accepts the meter of a page
+abbrev pub writeRounds : List ℕ → ℕ → ℕ
+writeRounds page n = passing n (λ i. isAccepted (writeAnswer (inRound (readOf page .meter) i) page))
+
+-- and those bytes
+unfoldable pub writtenRounds : Meter → List ℕ → ℕ → List ℕ
+writtenRounds m page zero = page
+writtenRounds m page (suc n) = written (inRound m n) (writtenRounds m page n)
+
+-- a page in round i: the last byte of its clock, if there is one, is the round
+abbrev pub pageInRound : List ℕ → ℕ → List ℕ
+pageInRound page i = cond (ltb 58 (length page)) (set page 58 (i % 256)) page
+
+-- the reader: how often it accepts the page
+abbrev pub readRounds : List ℕ → ℕ → ℕ
+readRounds page n = passing n (λ i. isAccepted (readOf (pageInRound page i) .answer))
+
+-- and the page after the last round
+unfoldable pub pageAfter : List ℕ → ℕ → List ℕ
+pageAfter page zero = page
+pageAfter page (suc n) = pageInRound page n

@@ -1,44 +1,18 @@
 // What the core does, many times over on a record in memory: a benchmark times these, since a call
 // of `pillar` reads and writes a page each time. Something changes from round to round, so that no
 // round can be left out. A page that the reader refuses counts as that of the meter which the reader
-// then hands back; but for `measure_calls`, these promise only that they end and stay in bounds.
+// then hands back.
 ghost use mathlib.Core.Path.{_≡_};
-ghost use Prim.Native.Nat.{_≤_};
-ghost use Rattle.calls.specs.Calls.{answerNumber};
-ghost use Rattle.replay.specs.Replay.{runFrom};
-ghost use Rattle.measure.specs.Rounds.{recordsIn, callsAnswer, callsPage};
+ghost use mathlib.Core.Bool.{cond};
+ghost use Rattle.page.specs.Layout.{readOf};
+ghost use Rattle.measure.specs.Rounds.{callsAnswer, callsPage, soundRounds, writeRounds, writtenRounds, pageInRound, readRounds, pageAfter};
 use calls::Answer;
-use meter::Meter;
-use replay::RECORD_LEN;
-
-// 0, or the number of the refusal.
-fn number(answer: Answer) -> u32
-    ensures { λ r. ⌜ r ≡ answerNumber answer ⌝ }
-{
-    match answer {
-        Answer::Accepted => 0,
-        Answer::Refused(number) => number as u32,
-    }
-}
 
 // What a round adds to a count.
 fn one_if(counts: bool) -> u32
-    ensures bounded { λ r. ⌜ r ≤ 1 ⌝ }
+    ensures { λ r. ⌜ r ≡ cond counts 1 0 ⌝ }
 {
     if counts { 1 } else { 0 }
-}
-
-// Every whole record as a command.
-fn run_records(before: Meter, records: &[u8]) -> Meter
-    ensures { λ r. ⌜ r ≡ runFrom before (recordsIn (now (records .entry))) ⌝ }
-{
-    let mut meter = before;
-    let count = records.len() / RECORD_LEN;
-    for i in 0..count {
-        let outcome = replay::next(meter, replay::record_at(records, i * RECORD_LEN));
-        meter = outcome.meter;
-    }
-    meter
 }
 
 // Runs the whole records of a list, `rounds` times, on the meter of a page, and writes the page.
@@ -54,15 +28,18 @@ pub extern "C" fn measure_calls(page: &mut [u8], records: &[u8], rounds: u32) ->
     let mut meter = read.meter;
     let mut left = rounds;
     while 0 < left {
-        meter = run_records(meter, records);
+        meter = replay::run_from(meter, records, 0);
         left -= 1;
     }
-    number(page::write_page(meter, page))
+    page::write_page(meter, page).number() as u32
 }
 
-// Tests `rounds` times whether the record of a page is sound, and answers how often it was.
+// Tests `rounds` times whether the record of a page is sound, and answers how often it was. The
+// clock, which the test leaves aside, counts the rounds.
 #[no_mangle]
-pub extern "C" fn measure_sound(page: &[u8], rounds: u32) -> u32 {
+pub extern "C" fn measure_sound(page: &[u8], rounds: u32) -> u32
+    ensures { λ r. ⌜ r ≡ soundRounds (now (page .entry)) rounds ⌝ }
+{
     let read = page::read_page(page);
     let mut meter = read.meter;
     let mut sound = 0;
@@ -74,16 +51,18 @@ pub extern "C" fn measure_sound(page: &[u8], rounds: u32) -> u32 {
 }
 
 // Writes the record of a page `rounds` times into the same bytes, and answers how often that was
-// accepted.
+// accepted. The clock counts the rounds.
 #[no_mangle]
-pub extern "C" fn measure_write(page: &mut [u8], rounds: u32) -> u32 {
+pub extern "C" fn measure_write(page: &mut [u8], rounds: u32) -> u32
+    ensures { λ r. ⌜ (r ≡ writeRounds (now (page .entry)) rounds) × (now (page .exit) ≡ writtenRounds (readOf (now (page .entry)) .meter) (now (page .entry)) rounds) ⌝ }
+{
     let read = page::read_page(page);
     let mut meter = read.meter;
     let mut accepted = 0;
     for round in 0..rounds {
         meter.clock = round;
         let answer = page::write_page(meter, page);
-        accepted += one_if(number(answer) == 0);
+        accepted += one_if(answer.number() == 0);
     }
     accepted
 }
@@ -92,7 +71,9 @@ pub extern "C" fn measure_write(page: &mut [u8], rounds: u32) -> u32 {
 const CLOCK_END: usize = 58;
 
 // Puts the round into that byte, if there is one.
-fn count_round(page: &mut [u8], round: u32) {
+fn count_round(page: &mut [u8], round: u32)
+    ensures { λ _. ⌜ now (page .exit) ≡ pageInRound (now (page .entry)) round ⌝ }
+{
     if CLOCK_END < page.len() {
         page[CLOCK_END] = (round % 256) as u8;
     }
@@ -101,13 +82,15 @@ fn count_round(page: &mut [u8], round: u32) {
 // Reads a page `rounds` times, and answers how often it was accepted. The last byte of its clock
 // counts the rounds.
 #[no_mangle]
-pub extern "C" fn measure_read(page: &mut [u8], rounds: u32) -> u32 {
+pub extern "C" fn measure_read(page: &mut [u8], rounds: u32) -> u32
+    ensures { λ r. ⌜ (r ≡ readRounds (now (page .entry)) rounds) × (now (page .exit) ≡ pageAfter (now (page .entry)) rounds) ⌝ }
+{
     let mut accepted = 0;
     for round in 0..rounds {
         count_round(page, round);
         let read = page::read_page(page);
         let answer = read.answer;
-        accepted += one_if(number(answer) == 0);
+        accepted += one_if(answer.number() == 0);
     }
     accepted
 }

@@ -7,7 +7,7 @@ use Rattle.history.specs.Effects.{Fresh, alarms, errors, Effect, sampled, reque
 use Rattle.history.specs.Last.{History, last, samplesSince, modeOf, clockOf}
 use Rattle.meter.specs.declared.step.Scalars.{Scalars}
 use Rattle.meter.proofs.Effects.{effectResult, Proper}
-use Rattle.meter.proofs.Parts.{otherParts, scalars-after}
+use Rattle.meter.proofs.OtherParts.{otherParts, scalars-after}
 
 module _ (f : Fresh) (h : History) (s : Scalars) (c : s .clock ≡ clockOf f h) where
   pub clock-part : (e : Effect) → Proper (modeOf f h) e → otherParts s e .clock ≡ clockOf f (e ∷ h)

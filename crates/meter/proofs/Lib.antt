@@ -2,7 +2,7 @@ pub mod Effects
 pub mod Values
 pub mod Answers
 pub mod Preserved
-pub mod Parts
+pub mod OtherParts
 pub mod Clock
 pub mod Ranges
 pub mod Registers

@@ -23,7 +23,7 @@ use Rattle.history.specs.Registers.{bitIn, isBit, stands}
 use Rattle.meter.specs.declared.step.Scalars.{Scalars}
 use Rattle.meter.specs.State.{withControl}
 use Rattle.meter.proofs.Effects.{effectResult, Proper, AllProper, registerOf}
-use Rattle.meter.proofs.Parts.{otherParts, scalars-after}
+use Rattle.meter.proofs.OtherParts.{otherParts, scalars-after}
 use Rattle.meter.proofs.Ranges.{filter-word}
 
 -- a register of the scalars

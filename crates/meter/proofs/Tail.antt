@@ -22,8 +22,9 @@ use Rattle.calls.specs.declared.Call.{Call}
 use Rattle.calls.specs.declared.Answer.the-variants.{Refused}
 use Rattle.meter.specs.declared.Meter.{Meter}
 use Rattle.meter.specs.declared.Outcome.{Outcome}
+use Rattle.meter.specs.declared.step.Scalars.{Scalars}
 use Rattle.meter.specs.declared.step.Step.{Step}
-use Rattle.meter.specs.State.{scalarsOf}
+use Rattle.meter.specs.State.{scalarsOf, withLogs}
 use Rattle.meter.specs.Sound.{soundScalars, soundMeter}
 use Rattle.meter.specs.Machine.{Result, inTwo, result, applied, stepOf}
 
@@ -45,6 +46,11 @@ pub not-sound : (rows : List Row) (m : Meter) (c : Call) → soundMeter rows m �
     → _≡_ {A = Outcome} (record { meter = m; answer = Refused 12 }) (applied rows m c)
 unfolding applied
 not-sound rows m c e = rw e
+
+-- ---- the record taken apart
+pub of-parts : (rows : List Row) (m : Meter) (c : Call) (s : Scalars) (o : Outcome) → s ≡ scalarsOf m
+    → o ≡ applied rows (withLogs s (m .logs .counts) (m .logs .clocks) (m .logs .codes)) c → o ≡ applied rows m c
+of-parts rows m c s o e p = rw (p, e)
 
 -- ---- the logs
 module _ (rows : List Row) (g : Logs) (z : Sized g) (e : soundLogs rows g ≡ true) (r : Result) where

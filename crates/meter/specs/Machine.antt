@@ -30,9 +30,10 @@ use Rattle.calls.specs.declared.Parsed.the-variants.{Ok, NoKind}
 use Rattle.calls.specs.Calls.{callOf}
 use Rattle.meter.specs.declared.Meter.{Meter}
 use Rattle.meter.specs.declared.Outcome.{Outcome}
+use Rattle.meter.specs.declared.parts.Answered.{Answered}
 use Rattle.meter.specs.declared.step.Scalars.{Scalars}
 use Rattle.meter.specs.declared.step.Step.{Step}
-use Rattle.meter.specs.State.{State, stateOf, scalarsOf, recordOf, withControl, withLimiter, withClock, withAlarms, withErrors}
+use Rattle.meter.specs.State.{State, stateOf, scalarsOf, withLogs, recordOf, withControl, withLimiter, withClock, withAlarms, withErrors}
 use Rattle.meter.specs.Sound.{soundMeter}
 
 -- what a call makes of the scalars: the next ones, the answer, a log that it clears (0: none), and the lines that it owes to a log
@@ -167,6 +168,10 @@ applied rows m c =
     cond (soundMeter rows m)
     (record { meter = recordOf (after (stateOf m) (result rows (scalarsOf m) c)); answer = result rows (scalarsOf m) c .answer })
     (record { meter = m; answer = Refused 12 })
+
+-- what a call on a record in parts comes to: its scalars and its answer, with the arrays as they are left
+abbrev pub together : Answered → List ℕ → List ℕ → List ℕ → Outcome
+together a counts clocks codes = record { meter = withLogs (a .scalars) counts clocks codes; answer = a .answer }
 
 -- 'kind | 13 | not 1–15; the command's reading fails before the record is touched'
 abbrev pub performed : List Row → Meter → Parsed → Outcome

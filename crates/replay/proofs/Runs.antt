@@ -12,6 +12,8 @@ use Rattle.codec.specs.Format.{decs, allValid}
 use Rattle.codec.specs.Lawful.{Bytes}
 use Rattle.codec.proofs.Formats.{times-lawful}
 use Rattle.events.specs.Table.{builtIn}
+use Rattle.events.proofs.Rule.{built-in-lawful}
+use Rattle.logs.specs.Layout.{Sized}
 use Rattle.calls.specs.declared.Call.{Call}
 use Rattle.calls.specs.declared.Answer.{Answer}
 use Rattle.calls.specs.declared.Answer.the-variants as answer
@@ -26,6 +28,7 @@ use Rattle.meter.specs.Sound.{soundMeter}
 use Rattle.meter.specs.Machine.{performed, commanded}
 use Rattle.meter.specs.Fresh.{Settings, freshState, holding, recordAfter}
 use Rattle.meter.specs.Laws.{lastRecord}
+use Rattle.meter.proofs.Preserved.{applied-sized}
 use Rattle.meter.proofs.Accepting.{fresh-laws}
 use Rattle.meter.proofs.Laws.{built-in}
 use Rattle.page.specs.Layout.{size, writeAnswer, written}
@@ -36,11 +39,11 @@ use Rattle.replay.specs.declared.Replayed.the-variants.{Written, Refused
 use Rattle.replay.specs.Input.{recordFormat}
 use Rattle.replay.specs.Replay.{recordLength, firstIn, laterIn, settingsIn, parsedIn, withCall, callsIn, startOf, nextOf, runFrom, lastMeter, accountIn, unlessRefused, endOf, replayAnswer, bufferAfter, replayed}
 use Rattle.replay.proofs.Records.{record-lawful}
-use Rattle.replay.proofs.Ranges.{settings-range, calls-range}
+use Rattle.replay.proofs.Ranges.{ParsedInRange, parsed-range, settings-range, calls-range}
 
 -- ---- the loop over the records: of n records, the one at i, then those from i + 1 on, until there are no more
 
-pub next-record : (m : Meter) (s : List ℕ) (n i : ℕ) → i < n
+next-record : (m : Meter) (s : List ℕ) (n i : ℕ) → i < n
     → runFrom (nextOf m (recordFormat .dec s (i * 21)) .meter) (decs recordFormat (n - (i + 1)) s ((i + 1) * 21))
     ≡ runFrom m (decs recordFormat (n - i) s (i * 21))
 unfolding runFrom
@@ -54,6 +57,23 @@ unfolding runFrom
 no-record m s n i h =
     let none : n - i ≡ 0 = omega arith in
     rw none
+
+-- the loop keeps its record in parts: the arrays keep their types' lengths
+performed-sized : (m : Meter) (p : Parsed) → ParsedInRange p → Sized (m .logs) → Sized (performed builtIn m p .meter .logs)
+performed-sized m (Ok c) i z = applied-sized builtIn built-in-lawful m c i z
+performed-sized m NoKind i z = z
+
+-- a turn of it: what the record at i makes of the meter, and that the records behind it are left
+pub next-turn : (s : List ℕ) (n i : ℕ) (m : Meter) (r : Record) (o : Outcome) → Bytes s → i < n → Sized (m .logs)
+    → r ≡ recordFormat .dec s (i * 21) → o ≡ nextOf m r
+    → Sized (o .meter .logs)
+    × (runFrom (o .meter) (decs recordFormat (n - (i + 1)) s ((i + 1) * 21)) ≡ runFrom m (decs recordFormat (n - i) s (i * 21)))
+unfolding commanded
+next-turn s n i m r o bytes h z read next =
+    let held = record-lawful .held-read s (i * 21) bytes refl in (
+      rw (next, read) (performed-sized m (parsedIn (recordFormat .dec s (i * 21))) (parsed-range _ held) z),
+      rw (next, read) (next-record m s n i h),
+    )
 
 -- ---- the machine's run is that of the calls which the records name
 

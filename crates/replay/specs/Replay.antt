@@ -1,7 +1,7 @@
 -- A whole input of the bench program: the calls that its records name, what becomes of it, and the page of its history.
 use mathlib.Core.Bool.{cond}
 use mathlib.Core.List.{List, [], _∷_, _++_}
-use Prim.Native.Nat.{ℕ, _-_, _/_, _%_}
+use Prim.Native.Nat.{ℕ, _-_, _*_, _/_, _%_}
 use lib.Dec.{eqb, leb, ltb}
 use lib.ListN.{length, drop}
 use Rattle.codec.specs.Format.{decs}
@@ -35,9 +35,13 @@ recordLength = recordFormat .width
 abbrev pub firstIn : List ℕ → Record
 firstIn s = recordFormat .dec s 0
 
--- the whole records after the first, in order
+-- the whole records from number i on, counted from 0, in order
+abbrev pub recordsFrom : ℕ → List ℕ → List Record
+recordsFrom i s = decs recordFormat (length s / recordLength - i) s (i * recordLength)
+
+-- those after the first
 abbrev pub laterIn : List ℕ → List Record
-laterIn s = decs recordFormat (length s / recordLength - 1) s recordLength
+laterIn s = recordsFrom 1 s
 
 -- 'Fresh takes mode, threshold, Over, Under, clock'; 'a sample or threshold is two's complement'
 abbrev pub settingsIn : Record → Fresh

@@ -1,5 +1,7 @@
 // The input: records of 21 bytes.
 ghost use mathlib.Core.Path.{_≡_};
+ghost use Prim.Native.Nat.{_+_, _≤_};
+ghost use lib.ListN.{length};
 ghost use Rattle.replay.specs.Input.{recordFormat};
 use crate::Record;
 
@@ -26,5 +28,21 @@ pub fn record_at(bytes: &[u8], at: usize) -> Record
         n3: codec::get_u32(bytes, at + 9),
         n4: codec::get_u32(bytes, at + 13),
         n5: codec::get_u32(bytes, at + 17),
+    }
+}
+
+// The record in 21 bytes that lie inside the slice, which it requires: with no test of each number. A
+// run over a list has counted its whole records once.
+pub(crate) fn whole_record_at(bytes: &[u8], at: usize) -> Record
+    requires { ⌜ at + recordFormat .width ≤ length (now bytes) ⌝ }
+    ensures { λ r. ⌜ r ≡ recordFormat .dec (now (bytes .entry)) at ⌝ }
+{
+    Record {
+        kind: bytes[at],
+        n1: codec::u32_at(bytes, at + 1),
+        n2: codec::u32_at(bytes, at + 5),
+        n3: codec::u32_at(bytes, at + 9),
+        n4: codec::u32_at(bytes, at + 13),
+        n5: codec::u32_at(bytes, at + 17),
     }
 }

@@ -11,6 +11,7 @@ use calls::Answer;
 pub use input::record_at;
 pub use listing::line_of;
 pub use run::next;
+pub use run::run_from;
 pub use run::start;
 
 // A record of the input: the kind of a call, 0 for fresh, and the numbers that it takes.
@@ -71,7 +72,7 @@ pub fn replay(records: &[u8], page: &mut [u8]) -> Replayed
     if records.len() % RECORD_LEN != 0 {
         return Replayed::Short;
     }
-    let last = run::run(fresh.meter, records);
+    let last = run::run_from(fresh.meter, records, 1);
     let written = page::write_page(last, page);
     match written {
         Answer::Accepted => Replayed::Written,

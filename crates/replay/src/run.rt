@@ -1,7 +1,7 @@
 // The records of an input on a meter: the first makes it, each later one gets the meter that the one
 // before handed back.
 ghost use mathlib.Core.Path.{_≡_};
-ghost use Rattle.replay.specs.Replay.{laterIn, startOf, nextOf, runFrom};
+ghost use Rattle.replay.specs.Replay.{recordsFrom, startOf, nextOf, runFrom};
 use crate::RECORD_LEN;
 use crate::Record;
 use crate::input;
@@ -35,15 +35,30 @@ pub fn next(meter: Meter, later: Record) -> Outcome
     )
 }
 
-// The meter after every whole record that follows the first, from the one that the first made.
-pub(crate) fn run(fresh: Meter, records: &[u8]) -> Meter
-    ensures { λ r. ⌜ r ≡ runFrom fresh (laterIn (now (records .entry))) ⌝ }
+// The meter after the whole records from number `first` on, counted from 0. The record is kept in
+// parts while they run: a call that takes it by value copies it.
+pub fn run_from(before: Meter, records: &[u8], first: usize) -> Meter
+    ensures { λ r. ⌜ r ≡ runFrom before (recordsFrom first (now (records .entry))) ⌝ }
 {
-    let mut meter = fresh;
+    let mut scalars = before.scalars();
+    let mut counts = before.logs.counts;
+    let mut clocks = before.logs.clocks;
+    let mut codes = before.logs.codes;
     let count = records.len() / RECORD_LEN;
-    for i in 1..count {
-        let outcome = next(meter, input::record_at(records, i * RECORD_LEN));
-        meter = outcome.meter;
+    for i in first..count {
+        let record = input::whole_record_at(records, i * RECORD_LEN);
+        let answered = scalars.command(
+            &mut counts,
+            &mut clocks,
+            &mut codes,
+            record.kind as u32,
+            record.n1,
+            record.n2,
+            record.n3,
+            record.n4,
+            record.n5,
+        );
+        scalars = answered.scalars;
     }
-    meter
+    scalars.with_logs(counts, clocks, codes)
 }

@@ -2,13 +2,14 @@
 -- Assumes nothing.
 use mathlib.Core.Path.{_≡_, refl, sym, _∙_}
 use borrow.Author.Needs.{needs}
-use Rattle.measure.specs.Rounds.{recordsIn, roundsFrom}
+use Rattle.replay.specs.Replay.{recordsFrom}
+use Rattle.measure.specs.Rounds.{roundsFrom}
 use Rattle.measure.proofs.Rounds.{next-round, no-round, rounds-refused, rounds-written}
 use Rattle.measure.proofs.measure_calls.Statement.{statement}
 use Rattle.measure.proofs.measure_calls.Tie as tie
 
 abbrev Inv-loop : tie.InvT-loop
-Inv-loop page records rounds meter₀ left₀ meter left = roundsFrom left meter (recordsIn records) ≡ roundsFrom rounds meter₀ (recordsIn records)
+Inv-loop page records rounds meter₀ left₀ meter left = roundsFrom left meter (recordsFrom 0 records) ≡ roundsFrom rounds meter₀ (recordsFrom 0 records)
 
 abbrev μ-loop : tie.MeasureT-loop
 μ-loop page records rounds meter₀ left₀ meter left = left
@@ -34,8 +35,8 @@ enum-told c = search needs
 loop-holds : tie.Need-loop-holds Inv-loop μ-loop
 loop-holds c = refl
 
-run-records-requires : tie.Need-run-records-requires Inv-loop μ-loop
-run-records-requires c κs = search needs
+run-from-requires : tie.Need-run-from-requires Inv-loop μ-loop
+run-from-requires c κs = search needs
 
 sub-left : tie.Need-sub-left Inv-loop μ-loop
 sub-left c = search needs
@@ -46,13 +47,16 @@ loop-less c = search needs
 loop-again : tie.Need-loop-again Inv-loop μ-loop
 loop-again c =
     let l = c .before .before .loop in
-    rw (c .run-records .ensures) (next-round (l .left) (l .meter) _ (search needs)) ∙ l .inv
+    rw (c .run-from .ensures) (next-round (l .left) (l .meter) _ (search needs)) ∙ l .inv
 
 write-page-requires : tie.Need-write-page-requires Inv-loop μ-loop
 write-page-requires c κs = search needs
 
 number-requires : tie.Need-number-requires Inv-loop μ-loop
 number-requires c κs = search needs
+
+cast-result-2 : tie.Need-cast-result-2 Inv-loop μ-loop
+cast-result-2 c = search needs
 
 same-length-2 : tie.Need-same-length-2 Inv-loop μ-loop
 same-length-2 c = search needs
@@ -80,11 +84,12 @@ measure-calls-spec =
     returns
     enum-told
     loop-holds
-    run-records-requires
+    run-from-requires
     sub-left
     loop-less
     loop-again
     write-page-requires
     number-requires
+    cast-result-2
     same-length-2
     returns-2)

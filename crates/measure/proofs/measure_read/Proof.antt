@@ -1,20 +1,31 @@
--- `measure_read` ends, and counts no more than the rounds so far, so that no sum wraps.
+-- `measure_read` meets its contract: the rounds so far that were accepted, and the page with the last of them.
 -- Assumes nothing.
-use mathlib.Core.Path.{_≡_}
-use Prim.Native.Nat.{_-_, _≤_}
+use mathlib.Core.Path.{_≡_, refl, ap, _∙_}
+use Prim.Native.Nat.{ℕ, _-_, _≤_}
+use native.Mathlib.Omega.{arith}
+use lib.Dec.{eqb}
 use lib.ListN.{length}
 use borrow.Author.Needs.{needs}
+use Rattle.meter.specs.declared.Outcome.{Outcome}
+use Rattle.page.specs.Layout.{readOf}
+use Rattle.measure.specs.Rounds.{passing, isAccepted, pageInRound, pageAfter}
+use Rattle.measure.proofs.Rounds.{passing-room, next-passing, next-page, after-round}
 use Rattle.measure.proofs.measure_read.Statement.{statement}
 use Rattle.measure.proofs.measure_read.Tie as tie
 
 abbrev Inv-loop : tie.InvT-loop
-Inv-loop page₀ rounds accepted₀ round₀ page accepted round = (accepted ≤ round) × (length page ≡ length page₀)
+Inv-loop page₀ rounds accepted₀ round₀ page accepted round =
+    (round ≤ rounds)
+    × (accepted ≡ passing round (λ i. isAccepted (readOf (pageInRound page₀ i) .answer)))
+    × (page ≡ pageAfter page₀ round)
+    × (length page ≡ length page₀)
 
 abbrev μ-loop : tie.MeasureT-loop
 μ-loop page₀ rounds accepted₀ round₀ page accepted round = rounds - round
 
 loop-holds : tie.Need-loop-holds Inv-loop μ-loop
-loop-holds c = search needs
+unfolding passing pageAfter
+loop-holds c = (omega arith, refl, refl, refl)
 
 count-round-requires : tie.Need-count-round-requires Inv-loop μ-loop
 count-round-requires c κs = search needs
@@ -29,7 +40,9 @@ one-if-requires : tie.Need-one-if-requires Inv-loop μ-loop
 one-if-requires c κs = search needs
 
 add-accepted : tie.Need-add-accepted Inv-loop μ-loop
-add-accepted c = search needs
+add-accepted c =
+    let l = c .before .before .before .before .before .before .before .before .before .loop in
+    omega (arith, passing-room (l .round) (l .accepted) (c .one-if .result) _ (eqb (c .before .number .result) 0) (l .inv .1) (c .one-if .ensures))
 
 add-round : tie.Need-add-round Inv-loop μ-loop
 add-round c = search needs
@@ -38,13 +51,28 @@ loop-less : tie.Need-loop-less Inv-loop μ-loop
 loop-less c = search needs
 
 loop-again : tie.Need-loop-again Inv-loop μ-loop
-loop-again c = search needs
+loop-again c =
+    let reads = c .before .before in
+    let counts = reads .before .before .before .before in
+    let turn = counts .before .before .before in
+    let l = turn .loop in
+    let page = turn .before .before .args .page .now in
+    let counted : counts .count-round .last .0 ≡ pageInRound page (l .round) = counts .count-round .ensures ∙ rw (l .inv .2) (next-page page (l .round)) in (
+      search needs,
+      next-passing (l .round) (l .accepted) (c .one-if .result) (λ i. isAccepted (readOf (pageInRound page i) .answer)) _ (l .inv .1) (c .one-if .ensures)
+          (ap (λ (k : ℕ). eqb k 0) (c .before .number .ensures) ∙ ap (λ (o : Outcome). isAccepted (o .answer)) (reads .read-page .ensures ∙ ap readOf counted)),
+      counted ∙ after-round page (l .round),
+      search needs,
+    )
 
 same-length : tie.Need-same-length Inv-loop μ-loop
 same-length c = search needs
 
 returns : tie.Need-returns Inv-loop μ-loop
-returns c = tt
+returns c =
+    let l = c .before .loop in
+    let e : l .round ≡ c .before .before .before .args .rounds = omega arith in
+    (rw (l .inv .1, e), rw (l .inv .2, e))
 
 pub measure-read-spec : {M : Type 1} → statement M
 measure-read-spec =

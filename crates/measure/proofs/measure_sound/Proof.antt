@@ -1,12 +1,21 @@
--- `measure_sound` ends, and counts no more than the rounds so far, so that no sum wraps.
+-- `measure_sound` meets its contract: the rounds so far that were sound, on the meter that was read but for its clock.
 -- Assumes nothing.
+use mathlib.Core.Path.{_≡_, refl, ap, _∙_}
 use Prim.Native.Nat.{_-_, _≤_}
+use native.Mathlib.Omega.{arith}
 use borrow.Author.Needs.{needs}
+use Rattle.events.specs.Table.{builtIn}
+use Rattle.meter.specs.Sound.{soundMeter}
+use Rattle.measure.specs.Rounds.{passing, inRound}
+use Rattle.measure.proofs.Rounds.{passing-room, next-passing, same-round}
 use Rattle.measure.proofs.measure_sound.Statement.{statement}
 use Rattle.measure.proofs.measure_sound.Tie as tie
 
 abbrev Inv-loop : tie.InvT-loop
-Inv-loop page rounds meter₀ sound₀ round₀ meter sound round = sound ≤ round
+Inv-loop page rounds meter₀ sound₀ round₀ meter sound round =
+    (round ≤ rounds)
+    × (sound ≡ passing round (λ i. soundMeter builtIn (inRound meter₀ i)))
+    × (inRound meter 0 ≡ inRound meter₀ 0)
 
 abbrev μ-loop : tie.MeasureT-loop
 μ-loop page rounds meter₀ sound₀ round₀ meter sound round = rounds - round
@@ -15,7 +24,8 @@ read-page-requires : tie.Need-read-page-requires Inv-loop μ-loop
 read-page-requires c κs = search needs
 
 loop-holds : tie.Need-loop-holds Inv-loop μ-loop
-loop-holds c = search needs
+unfolding passing
+loop-holds c = (omega arith, refl, refl)
 
 sound-requires : tie.Need-sound-requires Inv-loop μ-loop
 sound-requires c κs = search needs
@@ -24,7 +34,9 @@ one-if-requires : tie.Need-one-if-requires Inv-loop μ-loop
 one-if-requires c κs = search needs
 
 add-sound : tie.Need-add-sound Inv-loop μ-loop
-add-sound c = search needs
+add-sound c =
+    let l = c .before .before .before .loop in
+    omega (arith, passing-room (l .round) (l .sound) (c .one-if .result) _ (c .before .sound .result) (l .inv .1) (c .one-if .ensures))
 
 add-round : tie.Need-add-round Inv-loop μ-loop
 add-round c = search needs
@@ -33,10 +45,20 @@ loop-less : tie.Need-loop-less Inv-loop μ-loop
 loop-less c = search needs
 
 loop-again : tie.Need-loop-again Inv-loop μ-loop
-loop-again c = search needs
+loop-again c =
+    let l = c .before .before .before .loop in
+    let m = c .before .before .before .before .before .read-page .result .meter in (
+      search needs,
+      next-passing (l .round) (l .sound) (c .one-if .result) (λ i. soundMeter builtIn (inRound m i)) (c .before .sound .result) (l .inv .1) (c .one-if .ensures)
+          (c .before .sound .ensures ∙ ap (soundMeter builtIn) (same-round (l .meter) m (l .round) (l .inv .2))),
+      l .inv .2,
+    )
 
 returns : tie.Need-returns Inv-loop μ-loop
-returns c = tt
+returns c =
+    let l = c .before .loop in
+    let e : l .round ≡ c .before .before .before .before .before .args .rounds = omega arith in
+    rw (l .inv .1, e, c .before .before .before .read-page .ensures)
 
 pub measure-sound-spec : {M : Type 1} → statement M
 measure-sound-spec =

@@ -1,14 +1,25 @@
--- `measure_write` ends, and counts no more than the rounds so far, so that no sum wraps.
+-- `measure_write` meets its contract: the rounds so far that were accepted, and the bytes that they left.
 -- Assumes nothing.
-use mathlib.Core.Path.{_≡_}
-use Prim.Native.Nat.{_-_, _≤_}
+use mathlib.Core.Path.{_≡_, refl, ap, _∙_}
+use Prim.Native.Nat.{ℕ, _-_, _≤_}
+use native.Mathlib.Omega.{arith}
+use lib.Dec.{eqb}
 use lib.ListN.{length}
 use borrow.Author.Needs.{needs}
+use Rattle.meter.specs.declared.Meter.{Meter}
+use Rattle.page.specs.Layout.{writeAnswer}
+use Rattle.measure.specs.Rounds.{passing, isAccepted, inRound, writtenRounds}
+use Rattle.measure.proofs.Rounds.{passing-room, next-passing, same-round, next-written, answer-by-length}
 use Rattle.measure.proofs.measure_write.Statement.{statement}
 use Rattle.measure.proofs.measure_write.Tie as tie
 
 abbrev Inv-loop : tie.InvT-loop
-Inv-loop page₀ rounds meter₀ accepted₀ round₀ page meter accepted round = (accepted ≤ round) × (length page ≡ length page₀)
+Inv-loop page₀ rounds meter₀ accepted₀ round₀ page meter accepted round =
+    (round ≤ rounds)
+    × (accepted ≡ passing round (λ i. isAccepted (writeAnswer (inRound meter₀ i) page₀)))
+    × (inRound meter 0 ≡ inRound meter₀ 0)
+    × (page ≡ writtenRounds meter₀ page₀ round)
+    × (length page ≡ length page₀)
 
 abbrev μ-loop : tie.MeasureT-loop
 μ-loop page₀ rounds meter₀ accepted₀ round₀ page meter accepted round = rounds - round
@@ -17,7 +28,8 @@ read-page-requires : tie.Need-read-page-requires Inv-loop μ-loop
 read-page-requires c κs = search needs
 
 loop-holds : tie.Need-loop-holds Inv-loop μ-loop
-loop-holds c = search needs
+unfolding passing writtenRounds
+loop-holds c = (omega arith, refl, refl, refl, refl)
 
 write-page-requires : tie.Need-write-page-requires Inv-loop μ-loop
 write-page-requires c κs = search needs
@@ -29,7 +41,9 @@ one-if-requires : tie.Need-one-if-requires Inv-loop μ-loop
 one-if-requires c κs = search needs
 
 add-accepted : tie.Need-add-accepted Inv-loop μ-loop
-add-accepted c = search needs
+add-accepted c =
+    let l = c .before .before .before .before .before .before .before .loop in
+    omega (arith, passing-room (l .round) (l .accepted) (c .one-if .result) _ (eqb (c .before .number .result) 0) (l .inv .1) (c .one-if .ensures))
 
 add-round : tie.Need-add-round Inv-loop μ-loop
 add-round c = search needs
@@ -38,13 +52,34 @@ loop-less : tie.Need-loop-less Inv-loop μ-loop
 loop-less c = search needs
 
 loop-again : tie.Need-loop-again Inv-loop μ-loop
-loop-again c = search needs
+loop-again c =
+    let writes = c .before .before .before .before in
+    let turn = writes .before .before .before in
+    let l = turn .loop in
+    let m = turn .before .before .read-page .result .meter in
+    let page = turn .before .before .before .before .before .args .page .now in
+    let same = same-round (l .meter) m (l .round) (l .inv .2) in
+    let answers : writes .write-page .result ≡ writeAnswer (inRound m (l .round)) page =
+    writes .write-page .ensures .0
+    ∙ ap (λ (x : Meter). writeAnswer x (l .page)) same
+    ∙ answer-by-length (inRound m (l .round)) (l .page) page (l .inv .4) in (
+      search needs,
+      next-passing (l .round) (l .accepted) (c .one-if .result) (λ i. isAccepted (writeAnswer (inRound m i) page)) _ (l .inv .1) (c .one-if .ensures)
+          (ap (λ (k : ℕ). eqb k 0) (c .before .number .ensures) ∙ ap isAccepted answers),
+      l .inv .2,
+      writes .write-page .ensures .1 ∙ rw (same, l .inv .3) (next-written m page (l .round)),
+      search needs,
+    )
 
 same-length : tie.Need-same-length Inv-loop μ-loop
 same-length c = search needs
 
 returns : tie.Need-returns Inv-loop μ-loop
-returns c = tt
+returns c =
+    let l = c .before .loop in
+    let e : l .round ≡ c .before .before .before .before .before .before .args .rounds = omega arith in
+    let read = c .before .before .before .read-page .ensures in
+    (rw (l .inv .1, e, read), rw (l .inv .3, e, read))
 
 pub measure-write-spec : {M : Type 1} → statement M
 measure-write-spec =

@@ -60,7 +60,7 @@ page-written c =
     let fresh = whole .before .before .before in
     let known = fresh .before .before .before .before .before .before .before in
     ended (begins fresh) (λ i. omega (arith, known .shared-slice-known .given i)) (whole .before .enum-told .given .1) (eq-eqb _ _ (whole .if4 .left))
-    (run .run .result) (c .write-page .result) (c .write-page .last .1 .0) (run .run .ensures) (c .write-page .ensures)
+    (run .run-from .result) (c .write-page .result) (c .write-page .last .1 .0) (run .run-from .ensures) (c .write-page .ensures)
 
 returns : tie.Need-returns
 unfolding replayAnswer
@@ -97,8 +97,8 @@ returns-5 c =
     with-bytes _ _ Short
     (begins (c .before .before .before) .answer ∙ rw (c .before .enum-told .given .1, ne-eqb _ _ (c .if4 .taken)))
 
-run-requires : tie.Need-run-requires
-run-requires c κs = search needs
+run-from-requires : tie.Need-run-from-requires
+run-from-requires c κs = search needs
 
 write-page-requires : tie.Need-write-page-requires
 write-page-requires c κs = search needs
@@ -134,7 +134,7 @@ replay-spec =
     returns-4
     enum-told
     returns-5
-    run-requires
+    run-from-requires
     write-page-requires
     enum-told-2
     enum-known-written

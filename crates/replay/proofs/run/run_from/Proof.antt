@@ -1,0 +1,99 @@
+use mathlib.Core.Path.{_≡_, refl, sym, _∙_}
+use Prim.Native.Nat.{_-_, _*_, _/_}
+use native.Mathlib.Omega.{arith}
+use lib.ListN.{length}
+use borrow.Author.Needs.{needs}
+use Rattle.codec.specs.Format.{decs}
+use Rattle.logs.specs.Layout.{Sized}
+use Rattle.meter.specs.State.{withLogs}
+use Rattle.meter.specs.Machine.{together}
+use Rattle.replay.specs.Input.{recordFormat}
+use Rattle.replay.specs.Replay.{runFrom}
+use Rattle.replay.proofs.Runs.{next-turn, no-record}
+use Rattle.replay.proofs.run.run_from.Statement.{statement}
+use Rattle.replay.proofs.run.run_from.Tie as tie
+
+abbrev Inv-loop : tie.InvT-loop
+Inv-loop records first scalars₀ counts₀ clocks₀ codes₀ count i₀ scalars counts clocks codes i =
+    Sized (record { counts = counts; clocks = clocks; codes = codes })
+    × (runFrom (withLogs scalars counts clocks codes) (decs recordFormat (count - i) records (i * 21))
+    ≡ runFrom (withLogs scalars₀ counts₀ clocks₀ codes₀) (decs recordFormat (count - first) records (first * 21)))
+
+abbrev μ-loop : tie.MeasureT-loop
+μ-loop records first scalars₀ counts₀ clocks₀ codes₀ count i₀ scalars counts clocks codes i = count - i
+
+sized : (c : tie.Start Inv-loop μ-loop) → Sized (c .args .before .logs)
+sized c = record { counts = search needs; clocks = search needs; codes = search needs }
+
+scalars-requires : tie.Need-scalars-requires Inv-loop μ-loop
+scalars-requires c κs = search needs
+
+loop-holds : tie.Need-loop-holds Inv-loop μ-loop
+loop-holds c = (sized (c .before .before .before .before .before), refl)
+
+mul-whole-record-at : tie.Need-mul-whole-record-at Inv-loop μ-loop
+mul-whole-record-at c = search needs
+
+whole-record-at-requires : tie.Need-whole-record-at-requires Inv-loop μ-loop
+whole-record-at-requires c κs = search needs
+
+cast-command : tie.Need-cast-command Inv-loop μ-loop
+cast-command c = search needs
+
+command-requires : tie.Need-command-requires Inv-loop μ-loop
+command-requires c κs = search needs
+
+add-i : tie.Need-add-i Inv-loop μ-loop
+add-i c = omega (arith, mul-whole-record-at (c .before .before .before .before .before .before .before) .fits)
+
+loop-less : tie.Need-loop-less Inv-loop μ-loop
+loop-less c = search needs
+
+loop-again : tie.Need-loop-again Inv-loop μ-loop
+loop-again c =
+    let call = c .before .command in
+    let read = c .before .before .before .before .before .before in
+    let turn = read .before in
+    let l = turn .before .loop in
+    let known = turn .before .before .before .before .before .before in
+    let s = known .before .args .records .now in
+    let k =
+    next-turn s (length s / 21) (l .i) (withLogs (l .scalars) (l .counts) (l .clocks) (l .codes)) (read .whole-record-at .result)
+    (together (call .result) (call .last .1 .0) (call .last .1 .1 .0) (call .last .1 .1 .1 .0))
+    (λ i. omega (arith, known .shared-slice-known .given i))
+    (turn .loop-test .taken)
+    (l .inv .0)
+    (read .whole-record-at .ensures)
+    (call .ensures (l .inv .0)) in
+    (k .0, k .1 ∙ l .inv .1)
+
+with-logs-requires : tie.Need-with-logs-requires Inv-loop μ-loop
+with-logs-requires c κs = search needs
+
+returns : tie.Need-returns Inv-loop μ-loop
+returns c =
+    let l = c .before .before .loop in
+    let a = c .before .before .before .before .before .before in
+    let s = a .before .before .args .records .now in
+    rw (c .with-logs .ensures)
+    (sym (no-record (withLogs (l .scalars) (l .counts) (l .clocks) (l .codes)) s (length s / 21) (l .i) (search needs))
+    ∙ l .inv .1
+    ∙ rw (a .scalars .ensures))
+
+pub run-from-spec : {M : Type 1} → statement M
+run-from-spec =
+    tie.close
+    (tie.spec
+    Inv-loop
+    μ-loop
+    scalars-requires
+    loop-holds
+    mul-whole-record-at
+    whole-record-at-requires
+    cast-command
+    command-requires
+    add-i
+    loop-less
+    loop-again
+    with-logs-requires
+    returns)
