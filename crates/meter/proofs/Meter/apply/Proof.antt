@@ -1,6 +1,7 @@
 use borrow.Author.Needs.{needs}
 use Rattle.events.specs.Table.{builtIn}
 use Rattle.logs.specs.Layout.{Sized}
+use Rattle.meter.specs.Machine.{together}
 use Rattle.meter.proofs.Tail.{of-parts}
 use Rattle.meter.proofs.Meter.apply.Statement.{statement}
 use Rattle.meter.proofs.Meter.apply.Tie as tie
@@ -22,7 +23,9 @@ returns c =
     let a = c .before .before in
     let s = a .before .before .before .before in
     let m = s .before .before .before .before in
-    rw (c .with-logs .ensures) (of-parts builtIn (m .args .self) (m .args .call) (s .scalars .result) _ (s .scalars .ensures) (a .apply .ensures (sized m)))
+    let left = together (a .apply .result) (a .apply .last .1 .0) (a .apply .last .1 .1 .0) (a .apply .last .1 .1 .1 .0) in
+    rw (c .with-logs .ensures)
+    (of-parts builtIn (m .args .self) (m .args .call) (s .scalars .result) left (s .scalars .ensures) (a .apply .ensures (sized m)))
 
 pub apply-spec : {M : Type 1} → statement M
 apply-spec = tie.close (tie.spec scalars-requires apply-requires with-logs-requires returns)
