@@ -1,10 +1,11 @@
 -- Every call keeps a sound record sound, and the fresh meter is sound.
 -- Assumes nothing.
-use mathlib.Core.Path.{_≡_, refl}
+use mathlib.Core.Path.{_≡_, refl, _∙_}
 use mathlib.Core.Bool.{Bool, true, false, _&&_, not, cond, or-true}
-use mathlib.Core.List.{List, [], _∷_}
+use mathlib.Core.List.{List, [], _∷_, _++_}
 use mathlib.Core.Option.{Option, none, some}
 use Prim.Native.Nat.{ℕ}
+use native.Mathlib.Omega.{arith}
 use lib.Dec.{eqb, leb}
 use lib.IntN.{ℤ, pos}
 use lib.Signed.{leZ}
@@ -15,6 +16,7 @@ use Rattle.events.specs.Line.{Line, line, isLog}
 use Rattle.events.specs.Table.{Row, lookup, lawful}
 use Rattle.events.specs.Codes.{besides, mayHold}
 use Rattle.events.proofs.Rule.{row-held, row-log}
+use Rattle.events.proofs.Newest.{newest-short}
 use Rattle.control.specs.declared.Control.{Control}
 use Rattle.control.specs.declared.Request.{Request}
 use Rattle.control.specs.declared.Request.the-variants as request
@@ -26,13 +28,15 @@ use Rattle.limiter.specs.declared.Limiter.{Limiter}
 use Rattle.limiter.specs.declared.Watched.{Watched}
 use Rattle.limiter.specs.Limiter.{isOver, isDuration, sampled, soundLimiter}
 use Rattle.limiter.proofs.Watching.{kept, settings-sound}
-use Rattle.logs.specs.Lists.{emptied, ownLines, soundLists}
-use Rattle.logs.proofs.Kept.{appended-sound, emptied-sound}
+use Rattle.logs.specs.declared.Logs.{Logs}
+use Rattle.logs.specs.Lists.{appended, emptied, ownLines, soundLists}
+use Rattle.logs.specs.Layout.{Sized, laid, listsOf, soundLogs}
+use Rattle.logs.proofs.Read.{read-short, read-three}
+use Rattle.logs.proofs.Kept.{appended-sound, emptied-sound, length-changed, changed-short}
 use Rattle.calls.specs.declared.Call.{Call}
 use Rattle.calls.specs.declared.Call.the-variants.{Sample, RemoteDisconnect, RemoteReconnect, ManualDisconnect, ManualReconnect, SetMode, SetLimiter, SetClock, Event, SetAlarmFilter, SetErrorFilter, ClearAlarms, ClearErrors, ClearLog, Script}
 use Rattle.calls.specs.Calls.{InRange, AllInRange}
 use Rattle.history.specs.Effects.{Fresh}
-use Rattle.logs.specs.Layout.{Sized}
 use Rattle.meter.specs.declared.Meter.{Meter}
 use Rattle.meter.specs.declared.Outcome.{Outcome}
 use Rattle.meter.specs.declared.step.Scalars.{Scalars}
@@ -40,7 +44,7 @@ use Rattle.meter.specs.State.{State, stateOf, scalarsOf, withControl}
 use Rattle.meter.specs.Sound.{soundScalars, soundMeter, soundState}
 use Rattle.meter.specs.Machine.{Result, refusing, lineNow, moving, decided, answering, requestResult, afterSample, sampleResult, modeResult, limiterResult, occurring, eventResult, clearLogResult, scriptResult, result, after, applied}
 use Rattle.meter.specs.Fresh.{Settings, freshState, recordAfter}
-use Rattle.meter.proofs.Values.{state-sound, scalars-sound, logs-sound, record-sound, record-sized}
+use Rattle.meter.proofs.Values.{laid-sized, state-sound, scalars-sound, logs-sound, record-sound, record-sized}
 use Rattle.meter.proofs.Answers.{either}
 
 module _ (rows : List Row) where
@@ -237,13 +241,20 @@ module _ (rows : List Row) (all : every lawful rows ≡ true) where
     unfolding applied
     applied-sound e = rw e (record-sound rows _ (kept-sound (stateOf m) c i (state-sound rows m z e)))
 
-    -- the arrays keep their types' lengths
-    pub applied-sized : Sized (applied rows m c .meter .logs)
-    unfolding applied
-    applied-sized =
-        either (λ (o : Outcome). Sized (o .meter .logs)) (soundMeter rows m)
-        (λ e. record-sized rows (after (stateOf m) (result rows (scalarsOf m) c)) (kept-sound (stateOf m) c i (state-sound rows m z e)))
-        (λ e. z)
+-- ---- whatever a call is, the arrays keep their types' lengths
+after-sized : (rows : List Row) (g : Logs) (r : Result) → Sized g → soundLogs rows g ≡ true → Sized (laid (appended (r .log) (r .lines) (emptied (r .cleared) (listsOf g))))
+after-sized rows g r z e =
+    let empty = emptied (r .cleared) (listsOf g) in
+    let short = changed-short (r .cleared) (λ xs. []) (listsOf g) (λ xs. omega arith) (read-short rows g z e) in
+    laid-sized _ (length-changed (r .log) _ empty ∙ length-changed (r .cleared) _ (listsOf g) ∙ read-three rows g z e)
+    (changed-short (r .log) _ empty (λ xs. newest-short (xs ++ r .lines)) short)
+
+pub applied-sized : (rows : List Row) (m : Meter) (c : Call) → Sized (m .logs) → Sized (applied rows m c .meter .logs)
+unfolding applied soundMeter
+applied-sized rows m c z =
+    either (λ (o : Outcome). Sized (o .meter .logs)) (soundMeter rows m)
+    (λ e. after-sized rows (m .logs) (result rows (scalarsOf m) c) z (and-right (soundScalars (scalarsOf m)) (soundLogs rows (m .logs)) e))
+    (λ e. z)
 
 -- ---- the fresh meter
 pub fresh-sound : (rows : List Row) (f : Fresh) → Settings f → soundState rows (freshState f) ≡ true
@@ -253,12 +264,12 @@ fresh-sound rows f h =
 
 -- each record of a list of calls, accepted or refused
 module _ (rows : List Row) (all : every lawful rows ≡ true) (f : Fresh) (h : Settings f) where
-  pub run-sized : (cs : List Call) → AllInRange cs → Sized (recordAfter rows f cs .logs)
+  run-sized : (cs : List Call) → Sized (recordAfter rows f cs .logs)
   unfolding recordAfter
-  run-sized [] i = record-sized rows (freshState f) (fresh-sound rows f h)
-  run-sized (c ∷ cs) i = applied-sized rows all (recordAfter rows f cs) c (i .0) (run-sized cs (i .1))
+  run-sized [] = record-sized rows (freshState f) (fresh-sound rows f h)
+  run-sized (c ∷ cs) = applied-sized rows (recordAfter rows f cs) c (run-sized cs)
 
   pub run-sound : (cs : List Call) → AllInRange cs → soundMeter rows (recordAfter rows f cs) ≡ true
   unfolding recordAfter
   run-sound [] i = record-sound rows (freshState f) (fresh-sound rows f h)
-  run-sound (c ∷ cs) i = applied-sound rows all (recordAfter rows f cs) c (i .0) (run-sized cs (i .1)) (run-sound cs (i .1))
+  run-sound (c ∷ cs) i = applied-sound rows all (recordAfter rows f cs) c (i .0) (run-sized cs) (run-sound cs (i .1))

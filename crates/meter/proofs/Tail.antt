@@ -26,7 +26,7 @@ use Rattle.meter.specs.declared.step.Scalars.{Scalars}
 use Rattle.meter.specs.declared.step.Step.{Step}
 use Rattle.meter.specs.State.{scalarsOf, withLogs}
 use Rattle.meter.specs.Sound.{soundScalars, soundMeter}
-use Rattle.meter.specs.Machine.{Result, inTwo, result, applied, stepOf}
+use Rattle.meter.specs.Machine.{Result, inTwo, result, applied, together, stepOf}
 
 -- ---- the lines of a step, as the code has them
 module _ (f : Line → ℕ) (xs : List Line) where
@@ -85,34 +85,18 @@ module _ (rows : List Row) (m : Meter) (c : Call) (z : Sized (m .logs)) (e : sou
   unfolding applied soundMeter
   left = rw (e, logs-after rows (m .logs) z (and-right (soundScalars (scalarsOf m)) (soundLogs rows (m .logs)) e) (result rows (scalarsOf m) c))
 
-  -- the same, by what each call of the code is known to leave: the counts, clocks and codes after the clear (₀), and after the lines
-  pub finished : (s : Step) (k : ℕ) (counts₀ clocks₀ codes₀ counts clocks codes : List ℕ)
+  -- the same, by what the code is known to leave: the arrays after the clear (₀), and after the lines
+  pub finished : (s : Step) (counts₀ clocks₀ codes₀ counts clocks codes : List ℕ)
       → s ≡ stepOf (result rows (scalarsOf m) c)
-      → clocks₀ ≡ zeroed (s .cleared) (m .logs .clocks)
-      → codes₀ ≡ zeroed (s .cleared) (m .logs .codes)
-      → counts₀ ≡ uncounted (s .cleared) (m .logs .counts)
-      → k ≡ countOf (s .log) counts₀
-      → clocks ≡ extended (s .log) k (take (s .count) (s .clocks)) clocks₀
-      → codes ≡ extended (s .log) k (take (s .count) (s .codes)) codes₀
-      → counts ≡ counted (s .log) (s .count) counts₀
-      → _≡_ {A = Outcome}
-      (record {
-        meter =
-            record {
-              control = s .scalars .control;
-              limiter = s .scalars .limiter;
-              clock = s .scalars .clock;
-              alarms = s .scalars .alarms;
-              errors = s .scalars .errors;
-              logs = record { counts = counts; clocks = clocks; codes = codes };
-            };
-        answer = s .answer;
-      })
-      (applied rows m c)
+      → (counts₀ ≡ uncounted (s .cleared) (m .logs .counts)) × (clocks₀ ≡ zeroed (s .cleared) (m .logs .clocks)) × (codes₀ ≡ zeroed (s .cleared) (m .logs .codes))
+      → (counts ≡ counted (s .log) (length (take (s .count) (s .clocks))) counts₀)
+      × (clocks ≡ extended (s .log) (countOf (s .log) counts₀) (take (s .count) (s .clocks)) clocks₀)
+      × (codes ≡ extended (s .log) (countOf (s .log) counts₀) (take (s .count) (s .codes)) codes₀)
+      → together (record { scalars = s .scalars; answer = s .answer }) counts clocks codes ≡ applied rows m c
   unfolding extendedArrays zeroedArrays
-  finished s k counts₀ clocks₀ codes₀ counts clocks codes es t₀ d₀ n₀ ek t d n =
+  finished s counts₀ clocks₀ codes₀ counts clocks codes es clear lines =
       let xs = result rows (scalarsOf m) c .lines in
-      rw (n, d, t, ek, n₀, d₀, t₀, es, first-lines clockOf xs, first-lines codeOf xs) left
+      rw (lines .0, lines .1, lines .2, clear .0, clear .1, clear .2, es, first-lines clockOf xs, first-lines codeOf xs, length-map xs clockOf) left
 
 -- ---- the parts of the two arrays, as long as the count says
 pub lines-room : (s : Step) (r : Result) → s ≡ stepOf r → (s .count ≤ length (s .clocks)) × (s .count ≤ length (s .codes))

@@ -19,8 +19,7 @@ pub struct Answered {
 }
 
 impl Scalars {
-    // A call. A record that is not sound stays as it was. Each array is lent by itself to what clears
-    // a log and adds lines to it.
+    // A call. A record that is not sound stays as it was.
     pub fn apply(
         self,
         counts: &mut [u8; 3],
@@ -37,18 +36,18 @@ impl Scalars {
             };
         }
         let step = self.step(call);
-        let cleared = step.cleared;
-        logs::clear_clocks(clocks, cleared);
-        logs::clear_codes(codes, cleared);
-        logs::clear_count(counts, cleared);
-        let log = step.log;
+        logs::clear_log(counts, clocks, codes, step.cleared);
         let lines = step.count;
         let line_clocks = step.clocks;
         let line_codes = step.codes;
-        let count = logs::count_of(counts, log);
-        logs::append_clocks(clocks, log, count, &line_clocks[..lines]);
-        logs::append_codes(codes, log, count, &line_codes[..lines]);
-        logs::append_count(counts, log, lines);
+        logs::append_lines(
+            counts,
+            clocks,
+            codes,
+            step.log,
+            &line_clocks[..lines],
+            &line_codes[..lines],
+        );
         let scalars = step.scalars;
         let answer = step.answer;
         Answered { scalars, answer }

@@ -31,7 +31,7 @@ signed-range n h = go (ltb n 2147483648) refl
     go false e = (le-leb (4294967295 - n) 2147483647 (omega (arith, ltb-false n 2147483648 e)), refl)
 
 -- what is named, if anything, is in range
-abbrev pub ParsedInRange : Parsed → Type 0
+abbrev ParsedInRange : Parsed → Type 0
 ParsedInRange (Ok c) = InRange c
 ParsedInRange NoKind = Unit
 
@@ -43,7 +43,7 @@ module _ (r : Record) (h : recordFormat .Holds r) where
   pub settings-range : SettingsInRange (settingsIn r)
   settings-range = record { threshold = signed-range (r .n2) (h .0 .1 .1 .0); clock = word (r .n5) (h .0 .1 .1 .1 .1 .1) }
 
-  pub parsed-range : ParsedInRange (parsedIn r)
+  parsed-range : ParsedInRange (parsedIn r)
   unfolding callOf
   parsed-range =
       let n = word (r .n1) (h .0 .1 .0) in

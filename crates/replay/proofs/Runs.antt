@@ -12,14 +12,13 @@ use Rattle.codec.specs.Format.{decs, allValid}
 use Rattle.codec.specs.Lawful.{Bytes}
 use Rattle.codec.proofs.Formats.{times-lawful}
 use Rattle.events.specs.Table.{builtIn}
-use Rattle.events.proofs.Rule.{built-in-lawful}
 use Rattle.logs.specs.Layout.{Sized}
 use Rattle.calls.specs.declared.Call.{Call}
 use Rattle.calls.specs.declared.Answer.{Answer}
 use Rattle.calls.specs.declared.Answer.the-variants as answer
 use Rattle.calls.specs.declared.Parsed.{Parsed}
 use Rattle.calls.specs.declared.Parsed.the-variants.{Ok, NoKind}
-use Rattle.calls.specs.Calls.{AllInRange}
+use Rattle.calls.specs.Calls.{callOf, AllInRange}
 use Rattle.history.specs.Effects.{Fresh}
 use Rattle.meter.specs.declared.Meter.{Meter}
 use Rattle.meter.specs.declared.Outcome.{Outcome}
@@ -39,7 +38,7 @@ use Rattle.replay.specs.declared.Replayed.the-variants.{Written, Refused
 use Rattle.replay.specs.Input.{recordFormat}
 use Rattle.replay.specs.Replay.{recordLength, firstIn, laterIn, settingsIn, parsedIn, withCall, callsIn, startOf, nextOf, runFrom, lastMeter, accountIn, unlessRefused, endOf, replayAnswer, bufferAfter, replayed}
 use Rattle.replay.proofs.Records.{record-lawful}
-use Rattle.replay.proofs.Ranges.{ParsedInRange, parsed-range, settings-range, calls-range}
+use Rattle.replay.proofs.Ranges.{settings-range, calls-range}
 
 -- ---- the loop over the records: of n records, the one at i, then those from i + 1 on, until there are no more
 
@@ -59,21 +58,20 @@ no-record m s n i h =
     rw none
 
 -- the loop keeps its record in parts: the arrays keep their types' lengths
-performed-sized : (m : Meter) (p : Parsed) → ParsedInRange p → Sized (m .logs) → Sized (performed builtIn m p .meter .logs)
-performed-sized m (Ok c) i z = applied-sized builtIn built-in-lawful m c i z
-performed-sized m NoKind i z = z
+performed-sized : (m : Meter) (p : Parsed) → Sized (m .logs) → Sized (performed builtIn m p .meter .logs)
+performed-sized m (Ok c) z = applied-sized builtIn m c z
+performed-sized m NoKind z = z
+
+commanded-sized : (m : Meter) (k n1 n2 n3 n4 n5 : ℕ) → Sized (m .logs) → Sized (commanded builtIn m k n1 n2 n3 n4 n5 .meter .logs)
+unfolding commanded
+commanded-sized m k n1 n2 n3 n4 n5 z = performed-sized m (callOf k n1 n2 n3 n4 n5) z
 
 -- a turn of it: what the record at i makes of the meter, and that the records behind it are left
-pub next-turn : (s : List ℕ) (n i : ℕ) (m : Meter) (r : Record) (o : Outcome) → Bytes s → i < n → Sized (m .logs)
+pub next-turn : (s : List ℕ) (n i : ℕ) (m : Meter) (r : Record) (o : Outcome) → i < n → Sized (m .logs)
     → r ≡ recordFormat .dec s (i * 21) → o ≡ nextOf m r
     → Sized (o .meter .logs)
     × (runFrom (o .meter) (decs recordFormat (n - (i + 1)) s ((i + 1) * 21)) ≡ runFrom m (decs recordFormat (n - i) s (i * 21)))
-unfolding commanded
-next-turn s n i m r o bytes h z read next =
-    let held = record-lawful .held-read s (i * 21) bytes refl in (
-      rw (next, read) (performed-sized m (parsedIn (recordFormat .dec s (i * 21))) (parsed-range _ held) z),
-      rw (next, read) (next-record m s n i h),
-    )
+next-turn s n i m r o h z read next = (rw next (commanded-sized m _ _ _ _ _ _ z), rw (next, read) (next-record m s n i h))
 
 -- ---- the machine's run is that of the calls which the records name
 

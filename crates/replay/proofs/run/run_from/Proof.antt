@@ -55,12 +55,10 @@ loop-again c =
     let read = c .before .before .before .before .before .before in
     let turn = read .before in
     let l = turn .before .loop in
-    let known = turn .before .before .before .before .before .before in
-    let s = known .before .args .records .now in
+    let s = turn .before .before .before .before .before .before .before .args .records .now in
     let k =
     next-turn s (length s / 21) (l .i) (withLogs (l .scalars) (l .counts) (l .clocks) (l .codes)) (read .whole-record-at .result)
     (together (call .result) (call .last .1 .0) (call .last .1 .1 .0) (call .last .1 .1 .1 .0))
-    (λ i. omega (arith, known .shared-slice-known .given i))
     (turn .loop-test .taken)
     (l .inv .0)
     (read .whole-record-at .ensures)

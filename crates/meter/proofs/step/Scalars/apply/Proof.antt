@@ -30,9 +30,9 @@ room c =
     let a = start (c .before .before) .args in
     lines-room (c .step .result) (result builtIn (a .self) (a .call)) (c .step .ensures)
 
--- the step, before the arrays are lent to what adds the lines
-abbrev stepped : tie.After-count-of → tie.After-step
-stepped c = c .before .before .before .before .before .before .before .before .before .before
+-- the step, before the arrays are lent to what clears a log
+abbrev stepped : tie.After-clear-log → tie.After-step
+stepped c = c .before .before .before .before
 
 sound-requires : tie.Need-sound-requires
 sound-requires c κs = search needs
@@ -46,61 +46,36 @@ returns c z = not-sound builtIn _ _ (sym (tested (c .before)) ∙ not-true _ (c 
 step-requires : tie.Need-step-requires
 step-requires c κs = search needs
 
-clear-clocks-requires : tie.Need-clear-clocks-requires
-clear-clocks-requires c κs = search needs
-
-clear-codes-requires : tie.Need-clear-codes-requires
-clear-codes-requires c κs = search needs
-
-clear-count-requires : tie.Need-clear-count-requires
-clear-count-requires c κs = search needs
-
-count-of-requires : tie.Need-count-of-requires
-count-of-requires c κs = search needs
+clear-log-requires : tie.Need-clear-log-requires
+clear-log-requires c κs = search needs
 
 array-share-prefix-line-clocks : tie.Need-array-share-prefix-line-clocks
-array-share-prefix-line-clocks c = room (stepped (c .before)) .0
+array-share-prefix-line-clocks c = room (stepped (c .before .before .before .before .before)) .0
 
-slice-aggregate-append-clocks : tie.Need-slice-aggregate-append-clocks
-slice-aggregate-append-clocks c = part-length _ _ (room (stepped (c .before .before)) .0)
-
-append-clocks-requires : tie.Need-append-clocks-requires
-append-clocks-requires c κs = search needs
+slice-aggregate-append-lines : tie.Need-slice-aggregate-append-lines
+slice-aggregate-append-lines c = part-length _ _ (room (stepped (c .before .before .before .before .before .before)) .0)
 
 array-share-prefix-line-codes : tie.Need-array-share-prefix-line-codes
-array-share-prefix-line-codes c = room (stepped (c .before .before .before .before)) .1
+array-share-prefix-line-codes c = room (stepped (c .before .before .before .before .before .before)) .1
 
-slice-aggregate-append-codes : tie.Need-slice-aggregate-append-codes
-slice-aggregate-append-codes c = part-length _ _ (room (stepped (c .before .before .before .before .before)) .1)
+slice-aggregate-append-lines-2 : tie.Need-slice-aggregate-append-lines-2
+slice-aggregate-append-lines-2 c = part-length _ _ (room (stepped (c .before .before .before .before .before .before .before)) .1)
 
-append-codes-requires : tie.Need-append-codes-requires
-append-codes-requires c κs = search needs
-
-append-count-requires : tie.Need-append-count-requires
-append-count-requires c κs = search needs
+append-lines-requires : tie.Need-append-lines-requires
+append-lines-requires c κs = search needs
 
 returns-2 : tie.Need-returns-2
 returns-2 c z =
-    let counts = c .before in
-    let codes = counts .before .before in
-    let clocks = codes .before .before .before in
-    let count = clocks .before .before .before in
-    let counts₀ = count .before .before .before .before in
-    let codes₀ = counts₀ .before .before in
-    let clocks₀ = codes₀ .before .before in
-    let s = stepped count in
+    let lines = c .before in
+    let clear = lines .before .before .before .before .before .before .before .before in
+    let s = stepped clear in
     let b = s .before .before in
     let m = start b in
     finished builtIn (given m) (m .args .call) z (sym (tested b) ∙ not-false _ (s .before .if1 .left))
-    _ _ _ _ _ _ _ _
+    _ _ _ _ _ _ _
     (s .step .ensures)
-    (clocks₀ .clear-clocks .ensures)
-    (codes₀ .clear-codes .ensures)
-    (counts₀ .clear-count .ensures)
-    (count .count-of .ensures)
-    (clocks .append-clocks .ensures)
-    (codes .append-codes .ensures)
-    (counts .append-count .ensures)
+    (clear .clear-log .ensures)
+    (lines .append-lines .ensures)
 
 pub apply-spec : {M : Type 1} → statement M
 apply-spec =
@@ -110,15 +85,10 @@ apply-spec =
     sound-requires-2
     returns
     step-requires
-    clear-clocks-requires
-    clear-codes-requires
-    clear-count-requires
-    count-of-requires
+    clear-log-requires
     array-share-prefix-line-clocks
-    slice-aggregate-append-clocks
-    append-clocks-requires
+    slice-aggregate-append-lines
     array-share-prefix-line-codes
-    slice-aggregate-append-codes
-    append-codes-requires
-    append-count-requires
+    slice-aggregate-append-lines-2
+    append-lines-requires
     returns-2)
