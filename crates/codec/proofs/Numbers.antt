@@ -101,3 +101,11 @@ pub be-halves : (w k v : ℕ) → be (w + k) v ≡ be w (v / 256 ^ k) ++ be k (v
 be-halves w k v =
     let low : be k v ≡ be k (v % 256 ^ k) = rw div-add-mod' at (be-lower k (v / 256 ^ k) (v % 256 ^ k)) in
     be-higher w k v ∙ rw low
+
+-- bytes that are zero are the number zero
+pub numAt-zeros : (w : ℕ) (s : List ℕ) (at : ℕ) → ((i : ℕ) → i < w → getD s (at + i) 0 ≡ 0) → numAt w s at ≡ 0
+unfolding numAt
+numAt-zeros zero s at z = refl
+numAt-zeros (suc k) s at z =
+    let first : getD s at 0 ≡ 0 = rw add-zero at (z 0 (omega arith)) in
+    rw (first, numAt-zeros k s (suc at) (λ i h. rw (suc-add, ← add-suc) (z (suc i) (omega arith)))) (no-higher (256 ^ k) 0)

@@ -3,7 +3,7 @@
 use mathlib.Core.Path.{_≡_, sym, ap, _∙_}
 use mathlib.Core.List.{List, [], _∷_, _++_, append-assoc, append-nil, flatMap}
 use Prim.Native.Nat.{ℕ, zero, suc, _+_, _*_, _/_, _%_, _^_, _<_, _≤_}
-use native.Mathlib.Nat.{add-suc, suc-add, add-zero, suc-mul, zero-mul}
+use native.Mathlib.Nat.{add-suc, suc-add, zero-add, add-zero, suc-mul, zero-mul}
 use native.Mathlib.Numerals.{add-one}
 use native.Mathlib.Omega.{arith}
 use lib.ListN.{set, length, getD, take, drop, length-append, length-drop}
@@ -49,16 +49,18 @@ module _ {A : Type 0} (F : Format A) where
   encs-snoc (a ∷ l) zero d lt = append-nil (F .enc a)
   encs-snoc (a ∷ l) (suc j) d lt = rw (encs-snoc l j d (omega arith), append-assoc)
 
-  pub decs-snoc : (n : ℕ) (s : List ℕ) (at : ℕ) → decs F (suc n) s at ≡ decs F n s at ++ (F .dec s (at + n * F .width) ∷ [])
-  decs-snoc zero s at = rw (zero-mul, add-zero)
-  decs-snoc (suc n) s at =
-      let e : at + F .width + n * F .width ≡ at + suc n * F .width = rw suc-mul (omega arith) in
-      ap (λ (l : List A). F .dec s at ∷ l) (decs-snoc n s (at + F .width) ∙ rw e)
+  pub decs-append : (m n : ℕ) (s : List ℕ) (at : ℕ) → decs F (m + n) s at ≡ decs F m s at ++ decs F n s (at + m * F .width)
+  decs-append zero n s at = rw (zero-add, zero-mul, add-zero)
+  decs-append (suc m) n s at =
+      let e : at + F .width + m * F .width ≡ at + suc m * F .width = rw suc-mul (omega arith) in
+      rw suc-add (ap (λ (l : List A). F .dec s at ∷ l) (decs-append m n s (at + F .width) ∙ rw e))
 
   -- a turn of a loop that reads: j values are read, and the next is set behind them
   pub get-more : (l : List A) (j : ℕ) (s : List ℕ) (at : ℕ) → j < length l → take j l ≡ decs F j s at
       → take (j + 1) (set l j (F .dec s (at + j * F .width))) ≡ decs F (j + 1) s at
-  get-more l j s at lt e = rw (add-one j, take-suc-set l j (F .dec s (at + j * F .width)) lt, e) (sym (decs-snoc j s at))
+  get-more l j s at lt e =
+      let x = F .dec s (at + j * F .width) in
+      ap (λ (n : ℕ). take n (set l j x)) (add-one j) ∙ take-suc-set l j x lt ∙ ap (λ (r : List A). r ++ (x ∷ [])) e ∙ sym (decs-append j 1 s at)
 
   -- the end of such a loop: every value is read
   pub get-all : (l : List A) (n j : ℕ) (s : List ℕ) (at : ℕ) → j ≤ n → n ≤ j → length l ≡ n → take j l ≡ decs F j s at
