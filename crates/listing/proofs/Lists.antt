@@ -2,11 +2,10 @@
 -- Assumes nothing.
 use mathlib.Core.Path.{_≡_, refl, sym, ap, _∙_}
 use mathlib.Core.List.{List, [], _∷_, _++_}
-use Prim.Native.Nat.{ℕ, suc, _+_, _-_, _*_, _<_, _≤_}
+use Prim.Native.Nat.{ℕ, _+_, _-_, _*_, _≤_}
 use native.Mathlib.Omega.{arith}
 use lib.ListN.{length, length-append}
 use lib.Seq.{sets, length-sets}
-use Rattle.codec.specs.Format.{Format, decs}
 use Rattle.codec.proofs.Stores.{sets-then}
 use Rattle.meter.specs.declared.Meter.{Meter}
 use Rattle.meter.specs.declared.Outcome.{Outcome}
@@ -15,28 +14,6 @@ use Rattle.replay.specs.declared.Record.{Record}
 use Rattle.replay.specs.Replay.{nextOf, runFrom}
 use Rattle.replay.specs.Listing.{lineOf}
 use Rattle.listing.specs.Lines.{shown, linesFrom}
-
--- of n records, those from the one at i on
-module _ (F : Format Record) (n : ℕ) (s : List ℕ) where
-  abbrev pub restAt : ℕ → List Record
-  restAt i = decs F (n - i) s (i * F .width)
-
-  pub rest-first : restAt 0 ≡ decs F n s 0
-  rest-first =
-      let whole : n - 0 ≡ n = omega arith in
-      let start : 0 * F .width ≡ 0 = omega arith in
-      rw (whole, start)
-
-  pub rest-next : (i : ℕ) → i < n → restAt i ≡ F .dec s (i * F .width) ∷ restAt (i + 1)
-  rest-next i h =
-      let more : n - i ≡ suc (n - (i + 1)) = omega arith in
-      let place : (i + 1) * F .width ≡ i * F .width + F .width = omega arith in
-      rw (more, place)
-
-  pub rest-end : (i : ℕ) → n ≤ i → restAt i ≡ []
-  rest-end i h =
-      let none : n - i ≡ 0 = omega arith in
-      rw none
 
 module _ (text₀ : List ℕ) (position : ℕ) (m₀ : Meter) (all : List Record) where
   -- the lines of i records are put: with those of the rest, the text will be as with all of them

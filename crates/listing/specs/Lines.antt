@@ -1,13 +1,11 @@
 -- The lines of some records, one behind the other: 'Per record a line: position from 1, refusal or 0, switch, openings.'
 use mathlib.Core.List.{List, [], _∷_, _++_}
-use Prim.Native.Nat.{ℕ, _+_, _/_}
-use lib.ListN.{length, drop}
-use Rattle.codec.specs.Format.{decs}
+use Prim.Native.Nat.{ℕ, _+_}
+use lib.ListN.{drop}
 use Rattle.meter.specs.declared.Meter.{Meter}
 use Rattle.replay.specs.declared.Line.{Line}
 use Rattle.replay.specs.declared.Record.{Record}
-use Rattle.replay.specs.Input.{recordFormat}
-use Rattle.replay.specs.Replay.{recordLength, nextOf}
+use Rattle.replay.specs.Replay.{recordsFrom, nextOf}
 use Rattle.replay.specs.Listing.{lineOf}
 
 -- the bytes of a line
@@ -20,10 +18,6 @@ linesFrom position m [] = []
 linesFrom position m (r ∷ rs) =
     shown (lineOf position (nextOf m r)) ++ linesFrom (position + 1) (nextOf m r .meter) rs
 
--- 'records of 21 bytes': the whole ones in some bytes
-abbrev pub recordsIn : List ℕ → List Record
-recordsIn s = decs recordFormat (length s / recordLength) s 0
-
--- the lines of those, on a meter, the first at a position
+-- those of the whole records in some bytes
 abbrev pub linesIn : ℕ → Meter → List ℕ → List ℕ
-linesIn position m s = linesFrom position m (recordsIn s)
+linesIn position m s = linesFrom position m (recordsFrom 0 s)

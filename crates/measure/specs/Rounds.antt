@@ -46,7 +46,7 @@ unfoldable pub passing : ℕ → (ℕ → Bool) → ℕ
 passing zero test = 0
 passing (suc n) test = passing n test + cond (test n) 1 0
 
--- an answer that is no refusal
+-- an answer whose number is 0
 abbrev pub isAccepted : Answer → Bool
 isAccepted a = eqb (answerNumber a) 0
 
@@ -59,7 +59,7 @@ inRound m i =
 abbrev pub soundRounds : List ℕ → ℕ → ℕ
 soundRounds page n = passing n (λ i. soundMeter builtIn (inRound (readOf page .meter) i))
 
--- the writer, each time into the bytes that it left: how often it accepts the meter of a page
+-- the writer, each time into the bytes that it left, of whose length alone it asks: how often it accepts the meter of a page
 abbrev pub writeRounds : List ℕ → ℕ → ℕ
 writeRounds page n = passing n (λ i. isAccepted (writeAnswer (inRound (readOf page .meter) i) page))
 

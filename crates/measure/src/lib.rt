@@ -1,7 +1,7 @@
 // What the core does, many times over on a record in memory: a benchmark times these, since a call
 // of `pillar` reads and writes a page each time. Something changes from round to round, so that no
-// round can be left out. A page that the reader refuses counts as that of the meter which the reader
-// then hands back.
+// round can be left out. `measure_sound` and `measure_write` take a refused page for that of the meter
+// which the reader then hands back; `measure_calls` answers the refusal.
 ghost use mathlib.Core.Path.{_≡_};
 ghost use mathlib.Core.Bool.{cond};
 ghost use Rattle.page.specs.Layout.{readOf};

@@ -12,7 +12,7 @@ use Rattle.events.specs.Line.{Line}
 use Rattle.events.specs.Table.{Row}
 use Rattle.logs.specs.declared.Logs.{Logs}
 use Rattle.logs.specs.Lists.{appended, emptied}
-use Rattle.logs.specs.Arrays.{countOf, soundArrays, extended, counted, zeroed, uncounted}
+use Rattle.logs.specs.Arrays.{soundArrays}
 use Rattle.logs.specs.Layout.{Sized, clockOf, codeOf, laid, listsOf, soundLogs, extendedArrays, zeroedArrays}
 use Rattle.logs.proofs.Read.{read-short, read-three, laid-lists}
 use Rattle.logs.proofs.Laid.{zeroed-laid, extended-laid}
@@ -26,7 +26,7 @@ use Rattle.meter.specs.declared.step.Scalars.{Scalars}
 use Rattle.meter.specs.declared.step.Step.{Step}
 use Rattle.meter.specs.State.{scalarsOf, withLogs}
 use Rattle.meter.specs.Sound.{soundScalars, soundMeter}
-use Rattle.meter.specs.Machine.{Result, inTwo, result, applied, together, stepOf}
+use Rattle.meter.specs.Machine.{Result, inTwo, result, applied, stepOf, outcomeOf}
 
 -- ---- the lines of a step, as the code has them
 module _ (f : Line → ℕ) (xs : List Line) where
@@ -54,49 +54,31 @@ of-parts rows m c s o e p = rw (p, e)
 
 -- ---- the logs
 module _ (rows : List Row) (g : Logs) (z : Sized g) (e : soundLogs rows g ≡ true) (r : Result) where
-  logs-after : extendedArrays (r .log) (r .lines) (zeroedArrays (r .cleared) g) ≡ laid (appended (r .log) (r .lines) (emptied (r .cleared) (listsOf g)))
+  -- the arrays as the code leaves them
+  abbrev left : Logs
+  left = extendedArrays (r .log) (map clockOf (r .lines)) (map codeOf (r .lines)) (zeroedArrays (r .cleared) g)
+
+  logs-after : left ≡ laid (appended (r .log) (r .lines) (emptied (r .cleared) (listsOf g)))
   logs-after =
       let lists = listsOf g in
       let empty = emptied (r .cleared) lists in
       let sound = emptied-sound rows lists (lists-sound rows g z e) (r .cleared) in
       let cleared = zeroed-laid (r .cleared) lists (read-three rows g z e) (read-short rows g z e) in
-      ap (λ h. extendedArrays (r .log) (r .lines) (zeroedArrays (r .cleared) h)) (sym (laid-lists rows g z e))
-      ∙ ap (λ h. extendedArrays (r .log) (r .lines) h) cleared
+      let put = extendedArrays (r .log) (map clockOf (r .lines)) (map codeOf (r .lines)) in
+      ap (λ h. put (zeroedArrays (r .cleared) h)) (sym (laid-lists rows g z e))
+      ∙ ap put cleared
       ∙ extended-laid (r .log) empty (lists-length rows empty sound) (lists-short rows empty sound) (r .lines)
 
--- what the code leaves of a record, by a result: its scalars, and its lines in the arrays
-abbrev leaving : Meter → Result → Outcome
-leaving m r =
-    record {
-      meter =
-          record {
-            control = r .scalars .control;
-            limiter = r .scalars .limiter;
-            clock = r .scalars .clock;
-            alarms = r .scalars .alarms;
-            errors = r .scalars .errors;
-            logs = extendedArrays (r .log) (r .lines) (zeroedArrays (r .cleared) (m .logs));
-          };
-      answer = r .answer;
-    }
-
 module _ (rows : List Row) (m : Meter) (c : Call) (z : Sized (m .logs)) (e : soundMeter rows m ≡ true) where
-  left : leaving m (result rows (scalarsOf m) c) ≡ applied rows m c
+  -- what the code leaves of the record: the arrays g₀ after the clear, and g after the lines
+  pub finished : (s : Step) (g₀ g : Logs) → s ≡ stepOf (result rows (scalarsOf m) c) → g₀ ≡ zeroedArrays (s .cleared) (m .logs)
+      → g ≡ extendedArrays (s .log) (take (s .count) (s .clocks)) (take (s .count) (s .codes)) g₀
+      → outcomeOf (record { scalars = s .scalars; answer = s .answer }) (g .counts) (g .clocks) (g .codes) ≡ applied rows m c
   unfolding applied soundMeter
-  left = rw (e, logs-after rows (m .logs) z (and-right (soundScalars (scalarsOf m)) (soundLogs rows (m .logs)) e) (result rows (scalarsOf m) c))
-
-  -- the same, by what the code is known to leave: the arrays after the clear (₀), and after the lines
-  pub finished : (s : Step) (counts₀ clocks₀ codes₀ counts clocks codes : List ℕ)
-      → s ≡ stepOf (result rows (scalarsOf m) c)
-      → (counts₀ ≡ uncounted (s .cleared) (m .logs .counts)) × (clocks₀ ≡ zeroed (s .cleared) (m .logs .clocks)) × (codes₀ ≡ zeroed (s .cleared) (m .logs .codes))
-      → (counts ≡ counted (s .log) (length (take (s .count) (s .clocks))) counts₀)
-      × (clocks ≡ extended (s .log) (countOf (s .log) counts₀) (take (s .count) (s .clocks)) clocks₀)
-      × (codes ≡ extended (s .log) (countOf (s .log) counts₀) (take (s .count) (s .codes)) codes₀)
-      → together (record { scalars = s .scalars; answer = s .answer }) counts clocks codes ≡ applied rows m c
-  unfolding extendedArrays zeroedArrays
-  finished s counts₀ clocks₀ codes₀ counts clocks codes es clear lines =
-      let xs = result rows (scalarsOf m) c .lines in
-      rw (lines .0, lines .1, lines .2, clear .0, clear .1, clear .2, es, first-lines clockOf xs, first-lines codeOf xs, length-map xs clockOf) left
+  finished s g₀ g steps clears adds =
+      let r = result rows (scalarsOf m) c in
+      rw (adds, clears, steps, first-lines clockOf (r .lines), first-lines codeOf (r .lines), e)
+      (rw (logs-after rows (m .logs) z (and-right (soundScalars (scalarsOf m)) (soundLogs rows (m .logs)) e) r))
 
 -- ---- the parts of the two arrays, as long as the count says
 pub lines-room : (s : Step) (r : Result) → s ≡ stepOf r → (s .count ≤ length (s .clocks)) × (s .count ≤ length (s .codes))

@@ -169,10 +169,6 @@ applied rows m c =
     (record { meter = recordOf (after (stateOf m) (result rows (scalarsOf m) c)); answer = result rows (scalarsOf m) c .answer })
     (record { meter = m; answer = Refused 12 })
 
--- what a call on a record in parts comes to: its scalars and its answer, with the arrays as they are left
-abbrev pub together : Answered → List ℕ → List ℕ → List ℕ → Outcome
-together a counts clocks codes = record { meter = withLogs (a .scalars) counts clocks codes; answer = a .answer }
-
 -- 'kind | 13 | not 1–15; the command's reading fails before the record is touched'
 abbrev pub performed : List Row → Meter → Parsed → Outcome
 performed rows m (Ok c) = applied rows m c
@@ -198,3 +194,7 @@ stepOf r =
       clocks = inTwo (map clockOf (r .lines));
       codes = inTwo (map codeOf (r .lines));
     }
+
+-- the outcome of what a call on a record in parts answers and the arrays that it leaves
+abbrev pub outcomeOf : Answered → List ℕ → List ℕ → List ℕ → Outcome
+outcomeOf a counts clocks codes = record { meter = withLogs (a .scalars) counts clocks codes; answer = a .answer }

@@ -1,7 +1,7 @@
 -- The values of a meter record: its scalars, and each log as a list of lines, oldest first.
 use mathlib.Core.List.{List}
 use Rattle.events.specs.Line.{Line}
-use Rattle.logs.specs.Layout.{laid, listsOf}
+use Rattle.logs.specs.Layout.{arrays, laid, listsOf}
 use Rattle.registers.specs.declared.Register.{Register}
 use Rattle.control.specs.declared.Control.{Control}
 use Rattle.limiter.specs.declared.Limiter.{Limiter}
@@ -28,7 +28,7 @@ withLogs s counts clocks codes =
       clock = s .clock;
       alarms = s .alarms;
       errors = s .errors;
-      logs = record { counts = counts; clocks = clocks; codes = codes };
+      logs = arrays counts clocks codes;
     }
 
 -- read off a record

@@ -10,7 +10,7 @@ use meter::Meter;
 use meter::Outcome;
 use replay::Replayed;
 
-// 0, or the number of what became of a whole input: above every refusal's for what document 01 prints as words.
+// 0, the number of a refusal, or one above every refusal's for what document 01 prints as words.
 fn replayed_number(replayed: Replayed) -> u32
     ensures { λ r. ⌜ r ≡ replayNumber replayed ⌝ }
 {

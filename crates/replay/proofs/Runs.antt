@@ -8,7 +8,7 @@ use Prim.Native.Nat.{ℕ, zero, suc, _+_, _-_, _*_, _/_, _%_, _<_, _≤_}
 use native.Mathlib.Omega.{arith}
 use lib.Dec.{eqb, leb, ltb}
 use lib.ListN.{length, drop}
-use Rattle.codec.specs.Format.{decs, allValid}
+use Rattle.codec.specs.Format.{allValid}
 use Rattle.codec.specs.Lawful.{Bytes}
 use Rattle.codec.proofs.Formats.{times-lawful}
 use Rattle.events.specs.Table.{builtIn}
@@ -36,26 +36,23 @@ use Rattle.replay.specs.declared.Record.{Record}
 use Rattle.replay.specs.declared.Replayed.{Replayed}
 use Rattle.replay.specs.declared.Replayed.the-variants.{Written, Refused}
 use Rattle.replay.specs.Input.{recordFormat}
-use Rattle.replay.specs.Replay.{recordLength, firstIn, laterIn, settingsIn, parsedIn, withCall, callsIn, startOf, nextOf, runFrom, lastMeter, accountIn, unlessRefused, endOf, replayAnswer, bufferAfter, replayed}
+use Rattle.replay.specs.Replay.{recordLength, firstIn, recordsFrom, laterIn, settingsIn, parsedIn, withCall, callsIn, startOf, nextOf, runFrom, lastMeter, accountIn, unlessRefused, endOf, replayAnswer, bufferAfter, replayed}
 use Rattle.replay.proofs.Records.{record-lawful}
 use Rattle.replay.proofs.Ranges.{settings-range, calls-range}
 
--- ---- the loop over the records: of n records, the one at i, then those from i + 1 on, until there are no more
+-- ---- a loop over the records: the one at i, then those from i + 1 on, until there are no more
 
-next-record : (m : Meter) (s : List ℕ) (n i : ℕ) → i < n
-    → runFrom (nextOf m (recordFormat .dec s (i * 21)) .meter) (decs recordFormat (n - (i + 1)) s ((i + 1) * 21))
-    ≡ runFrom m (decs recordFormat (n - i) s (i * 21))
-unfolding runFrom
-next-record m s n i h =
-    let one : n - i ≡ suc (n - (i + 1)) = omega arith in
-    let at : (i + 1) * 21 ≡ i * 21 + 21 = omega arith in
-    rw (one, at)
+module _ (s : List ℕ) (i : ℕ) where
+  pub records-next : i < length s / 21 → recordsFrom i s ≡ recordFormat .dec s (i * 21) ∷ recordsFrom (i + 1) s
+  records-next h =
+      let one : length s / 21 - i ≡ suc (length s / 21 - (i + 1)) = omega arith in
+      let at : (i + 1) * 21 ≡ i * 21 + 21 = omega arith in
+      rw (one, at)
 
-pub no-record : (m : Meter) (s : List ℕ) (n i : ℕ) → n ≤ i → runFrom m (decs recordFormat (n - i) s (i * 21)) ≡ m
-unfolding runFrom
-no-record m s n i h =
-    let none : n - i ≡ 0 = omega arith in
-    rw none
+  pub records-end : length s / 21 ≤ i → recordsFrom i s ≡ []
+  records-end h =
+      let none : length s / 21 - i ≡ 0 = omega arith in
+      rw none
 
 -- the loop keeps its record in parts: the arrays keep their types' lengths
 performed-sized : (m : Meter) (p : Parsed) → Sized (m .logs) → Sized (performed builtIn m p .meter .logs)
@@ -67,11 +64,15 @@ unfolding commanded
 commanded-sized m k n1 n2 n3 n4 n5 z = performed-sized m (callOf k n1 n2 n3 n4 n5) z
 
 -- a turn of it: what the record at i makes of the meter, and that the records behind it are left
-pub next-turn : (s : List ℕ) (n i : ℕ) (m : Meter) (r : Record) (o : Outcome) → i < n → Sized (m .logs)
+pub next-turn : (s : List ℕ) (i : ℕ) (m : Meter) (r : Record) (o : Outcome) → i < length s / 21 → Sized (m .logs)
     → r ≡ recordFormat .dec s (i * 21) → o ≡ nextOf m r
-    → Sized (o .meter .logs)
-    × (runFrom (o .meter) (decs recordFormat (n - (i + 1)) s ((i + 1) * 21)) ≡ runFrom m (decs recordFormat (n - i) s (i * 21)))
-next-turn s n i m r o h z read next = (rw next (commanded-sized m _ _ _ _ _ _ z), rw (next, read) (next-record m s n i h))
+    → Sized (o .meter .logs) × (runFrom (o .meter) (recordsFrom (i + 1) s) ≡ runFrom m (recordsFrom i s))
+unfolding runFrom
+next-turn s i m r o h z read next = (rw next (commanded-sized m _ _ _ _ _ _ z), rw (next, read, records-next s i h))
+
+pub last-turn : (s : List ℕ) (i : ℕ) (m : Meter) → length s / 21 ≤ i → runFrom m (recordsFrom i s) ≡ m
+unfolding runFrom
+last-turn s i m h = rw (records-end s i h)
 
 -- ---- the machine's run is that of the calls which the records name
 

@@ -5,16 +5,16 @@ use native.Mathlib.Omega.{arith}
 use borrow.Author.Needs.{needs}
 use lib.ListN.{length}
 use Rattle.io.proofs.Counting.{counts}
-use Rattle.replay.specs.Input.{recordFormat}
-use Rattle.listing.specs.Lines.{recordsIn}
-use Rattle.listing.proofs.Lists.{restAt, rest-first, rest-next, rest-end, Listing, none-listed, one-listed, all-listed}
+use Rattle.replay.specs.Replay.{recordsFrom}
+use Rattle.replay.proofs.Runs.{records-next, records-end}
+use Rattle.listing.proofs.Lists.{Listing, none-listed, one-listed, all-listed}
 use Rattle.listing.proofs.lines.put_lines.Statement.{statement}
 use Rattle.listing.proofs.lines.put_lines.Tie as tie
 
 abbrev Inv-loop : tie.InvT-loop
 Inv-loop text₀ block position meter₀ len₀ i₀ text meter len i =
     (i ≤ length block / 21)
-    × Listing text₀ position meter₀ (recordsIn block) text meter len i (restAt recordFormat (length block / 21) block i)
+    × Listing text₀ position meter₀ (recordsFrom 0 block) text meter len i (recordsFrom i block)
 
 abbrev μ-loop : tie.MeasureT-loop
 μ-loop text₀ block position meter₀ len₀ i₀ text meter len i = length block / 21 - i
@@ -23,8 +23,7 @@ loop-holds : tie.Need-loop-holds Inv-loop μ-loop
 loop-holds c =
     let a = c .before .before .args in
     let s = a .block .now in
-    let rest = rest-first recordFormat (length s / 21) s in
-    (omega arith, rw rest (none-listed (a .text .now) (a .position) (a .before) (recordsIn s)))
+    (omega arith, none-listed (a .text .now) (a .position) (a .before) (recordsFrom 0 s))
 
 mul-record-at : tie.Need-mul-record-at Inv-loop μ-loop
 mul-record-at c = search needs
@@ -59,10 +58,10 @@ loop-again c =
     let l = n .before .before .before .loop in
     let a = n .before .before .before .before .before .before .args in
     let s = a .block .now in
-    let rest = rest-next recordFormat (length s / 21) s (l .i) (search needs) in
+    let rest = records-next s (l .i) (search needs) in
     let left = rw (rest, ← (n .before .record-at .ensures)) at (l .inv .1) in (
       search needs,
-      one-listed (a .text .now) (a .position) (a .before) (recordsIn s) left (n .next .ensures) (p .before .line-of .ensures) (p .put-line .ensures .0)
+      one-listed (a .text .now) (a .position) (a .before) (recordsFrom 0 s) left (n .next .ensures) (p .before .line-of .ensures) (p .put-line .ensures .0)
           (p .put-line .ensures .1 .0),
     )
 
@@ -74,8 +73,8 @@ returns c =
     let l = c .before .loop in
     let a = c .before .before .before .before .args in
     let s = a .block .now in
-    let none = rest-end recordFormat (length s / 21) s (l .i) (search needs) in
-    let listed = all-listed (a .text .now) (a .position) (a .before) (recordsIn s) (rw none at (l .inv .1)) in
+    let none = records-end s (l .i) (search needs) in
+    let listed = all-listed (a .text .now) (a .position) (a .before) (recordsFrom 0 s) (rw none at (l .inv .1)) in
     (listed .0, (listed .1, counts _ _ (omega (arith, l .inv .1 .size, l .inv .1 .room))))
 
 pub put-lines-spec : {M : Type 1} → statement M

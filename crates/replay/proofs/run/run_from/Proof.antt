@@ -1,23 +1,20 @@
 use mathlib.Core.Path.{_≡_, refl, sym, _∙_}
-use Prim.Native.Nat.{_-_, _*_, _/_}
+use Prim.Native.Nat.{_-_}
 use native.Mathlib.Omega.{arith}
-use lib.ListN.{length}
 use borrow.Author.Needs.{needs}
-use Rattle.codec.specs.Format.{decs}
-use Rattle.logs.specs.Layout.{Sized}
+use Rattle.logs.specs.Layout.{arrays, Sized}
 use Rattle.meter.specs.State.{withLogs}
-use Rattle.meter.specs.Machine.{together}
-use Rattle.replay.specs.Input.{recordFormat}
-use Rattle.replay.specs.Replay.{runFrom}
-use Rattle.replay.proofs.Runs.{next-turn, no-record}
+use Rattle.meter.specs.Machine.{outcomeOf}
+use Rattle.replay.specs.Replay.{recordsFrom, runFrom}
+use Rattle.replay.proofs.Runs.{next-turn, last-turn}
 use Rattle.replay.proofs.run.run_from.Statement.{statement}
 use Rattle.replay.proofs.run.run_from.Tie as tie
 
 abbrev Inv-loop : tie.InvT-loop
 Inv-loop records first scalars₀ counts₀ clocks₀ codes₀ count i₀ scalars counts clocks codes i =
-    Sized (record { counts = counts; clocks = clocks; codes = codes })
-    × (runFrom (withLogs scalars counts clocks codes) (decs recordFormat (count - i) records (i * 21))
-    ≡ runFrom (withLogs scalars₀ counts₀ clocks₀ codes₀) (decs recordFormat (count - first) records (first * 21)))
+    Sized (arrays counts clocks codes)
+    × (runFrom (withLogs scalars counts clocks codes) (recordsFrom i records)
+    ≡ runFrom (withLogs scalars₀ counts₀ clocks₀ codes₀) (recordsFrom first records))
 
 abbrev μ-loop : tie.MeasureT-loop
 μ-loop records first scalars₀ counts₀ clocks₀ codes₀ count i₀ scalars counts clocks codes i = count - i
@@ -57,8 +54,8 @@ loop-again c =
     let l = turn .before .loop in
     let s = turn .before .before .before .before .before .before .before .args .records .now in
     let k =
-    next-turn s (length s / 21) (l .i) (withLogs (l .scalars) (l .counts) (l .clocks) (l .codes)) (read .whole-record-at .result)
-    (together (call .result) (call .last .1 .0) (call .last .1 .1 .0) (call .last .1 .1 .1 .0))
+    next-turn s (l .i) (withLogs (l .scalars) (l .counts) (l .clocks) (l .codes)) (read .whole-record-at .result)
+    (outcomeOf (call .result) (call .last .1 .0) (call .last .1 .1 .0) (call .last .1 .1 .1 .0))
     (turn .loop-test .taken)
     (l .inv .0)
     (read .whole-record-at .ensures)
@@ -74,7 +71,7 @@ returns c =
     let a = c .before .before .before .before .before .before in
     let s = a .before .before .args .records .now in
     rw (c .with-logs .ensures)
-    (sym (no-record (withLogs (l .scalars) (l .counts) (l .clocks) (l .codes)) s (length s / 21) (l .i) (search needs))
+    (sym (last-turn s (l .i) (withLogs (l .scalars) (l .counts) (l .clocks) (l .codes)) (search needs))
     ∙ l .inv .1
     ∙ rw (a .scalars .ensures))
 

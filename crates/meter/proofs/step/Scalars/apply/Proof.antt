@@ -5,6 +5,7 @@ use lib.ListN.{length}
 use borrow.Author.Needs.{needs}
 use borrow.Author.Tests.{not-true, not-false}
 use Rattle.events.specs.Table.{builtIn}
+use Rattle.logs.specs.Layout.{arrays}
 use Rattle.meter.specs.declared.Meter.{Meter}
 use Rattle.meter.specs.Machine.{result}
 use Rattle.meter.specs.Sound.{soundMeter}
@@ -72,7 +73,9 @@ returns-2 c z =
     let b = s .before .before in
     let m = start b in
     finished builtIn (given m) (m .args .call) z (sym (tested b) ∙ not-false _ (s .before .if1 .left))
-    _ _ _ _ _ _ _
+    (s .step .result)
+    (arrays (clear .clear-log .last .0) (clear .clear-log .last .1 .0) (clear .clear-log .last .1 .1 .0))
+    (arrays (lines .append-lines .last .0) (lines .append-lines .last .1 .0) (lines .append-lines .last .1 .1 .0))
     (s .step .ensures)
     (clear .clear-log .ensures)
     (lines .append-lines .ensures)
