@@ -38,16 +38,18 @@ fn print_page(page: [u8; 558]) {
     print_area(&page[397..558]);
 }
 
-// The page of the whole file, if it is one that leaves a page. A file that does not fit the buffer
-// counts as cut: 65,536 is no multiple of a record's 21 bytes.
+// The page of the whole file, or that there is none. A file that does not fit the buffer counts as cut:
+// 65,536 is no multiple of a record's 21 bytes.
 fn print_last_page(file: i32) {
     let mut records = io::large_buffer();
     let mut page = [0u8; 558];
     let got = io::read_full(file, &mut records);
     let replayed = replay::replay(&records[..got], &mut page);
-    if let Replayed::Written = replayed {
-        print_page(page);
-    }
+    let Replayed::Written = replayed else {
+        print(b"no page\n");
+        return;
+    };
+    print_page(page);
 }
 
 // The file is opened twice: the listing reads it block by block, the replay as a whole.
