@@ -2,7 +2,7 @@
 
 use crate::side::{Call, Page, Side};
 use pillar::PAGE;
-use plain::Meter;
+use plain::{LINES, Meter, refusal};
 
 /// How many calls a list of one kind of call has.
 const CALLS: usize = 1_000;
@@ -61,9 +61,25 @@ const QUIET: [Call; 3] = [call(1, 3000), call(1, 0), call(1, 1200)];
 const FIRING: [Call; 2] = [call(1, 3001), call(1, 3000)];
 const EVENTS: [Call; 4] = [call(9, 6), call(9, 40), call(9, 68), call(9, 15)];
 const REQUESTS: [Call; 5] = [call(2, 0), call(15, 2), call(5, 0), call(4, 0), call(3, 0)];
+const CHANGES: [Call; 7] = [
+    call(6, 5),
+    Call {
+        kind: 7,
+        numbers: [3000, 2, 3, 0, 0],
+    },
+    call(8, 77),
+    call(10, 2),
+    call(11, 2),
+    call(12, 2),
+    call(13, 2),
+];
+const CLEARINGS: [Call; 3] = [call(14, 1), call(14, 2), call(14, 3)];
 /// Refused, so that no page is written: mode 7.
 const REFUSED: Call = call(6, 7);
+/// A line in each log.
 const FILLING: [Call; 3] = [call(9, 6), call(9, 40), call(9, 68)];
+/// Neither empty nor full, and no whole number of vectors.
+const SOME_LINES: usize = 11;
 const MIXED: [Call; 12] = [
     call(1, 3001),
     call(1, 3001),
@@ -79,23 +95,35 @@ const MIXED: [Call; 12] = [
     call(6, 7),
 ];
 
+/// Where a 7 makes a reader refuse the page: the end of the last pair, the mode.
+const PAIR_END: usize = 31;
+const MODE: usize = 32;
+
 /// Every item, in the table's order.
 pub fn items() -> Vec<Item> {
-    let empty = page(SETTINGS, false);
-    let full = page(SETTINGS, true);
-    let hasty = page(HASTY, true);
+    let empty = page(SETTINGS, 0);
+    let some = page(SETTINGS, SOME_LINES);
+    let full = page(SETTINGS, LINES);
+    let hasty = page(HASTY, LINES);
+    let other_pair = refused_page(full, PAIR_END, refusal::PAIR);
+    let unsound = refused_page(full, MODE, refusal::UNSOUND_PAGE);
     let mut items = vec![
         calls("quiet sample, empty logs", empty, &QUIET),
+        calls("quiet sample, 11 lines a log", some, &QUIET),
         calls("quiet sample, full logs", full, &QUIET),
         calls("firing sample, full logs", hasty, &FIRING),
         calls("event, full logs", full, &EVENTS),
         calls("request, full logs", full, &REQUESTS),
+        calls("setting, full logs", full, &CHANGES),
+        calls("clear log", full, &CLEARINGS),
         short("soundness, empty logs", empty, Job::Sound),
         short("soundness, full logs", full, Job::Sound),
         short("page write, empty logs", empty, Job::Write),
         short("page write, full logs", full, Job::Write),
         short("page read, empty logs", empty, Job::Read),
         short("page read, full logs", full, Job::Read),
+        short("page read, a pair differs", other_pair, Job::Read),
+        short("page read, not sound", unsound, Job::Read),
         short("page read + first answer", full, Job::CallOnPage(REFUSED)),
         short("page read + call + write", full, Job::CallOnPage(QUIET[0])),
     ];
@@ -113,7 +141,7 @@ fn mixed_list(length: usize) -> Item {
         kind: 0,
         numbers: SETTINGS,
     };
-    let filling = filling();
+    let filling = filling(LINES);
     let later = filling.iter().chain(MIXED.iter().cycle());
     let list = records([&fresh].into_iter().chain(later).take(length));
     Item {
@@ -156,23 +184,29 @@ fn records<'a>(calls: impl Iterator<Item = &'a Call>) -> Vec<u8> {
     bytes
 }
 
-/// The calls that fill the three logs.
-fn filling() -> Vec<Call> {
-    FILLING.repeat(plain::LINES)
+/// The calls that put so many lines into each log.
+fn filling(lines: usize) -> Vec<Call> {
+    FILLING.repeat(lines)
 }
 
-fn page(settings: [u32; 5], filled: bool) -> Page {
+fn page(settings: [u32; 5], lines: usize) -> Page {
     let [mode, threshold, over, under, clock] = settings;
     let fresh = Meter::fresh(mode, threshold as i32, over, under, clock);
     let mut meter = fresh.expect("the settings are in range");
-    if filled {
-        for call in filling() {
-            let answer = meter.command(call.kind, call.numbers);
-            answer.expect("the events are listed");
-        }
+    for call in filling(lines) {
+        let answer = meter.command(call.kind, call.numbers);
+        answer.expect("the events are listed");
     }
     let mut page = [0; PAGE];
     meter.write_page(&mut page).expect("a page holds a page");
+    page
+}
+
+/// A page with 7 at a place. A reader then accepts none of its rounds, which
+/// says something only where the page is known to be refused.
+fn refused_page(mut page: Page, place: usize, number: u8) -> Page {
+    page[place] = 7;
+    assert_eq!(Meter::read_page(&page).err(), Some(number));
     page
 }
 
