@@ -13,7 +13,7 @@ usage: compare [--calls N] [--seed S] [--seconds T] [--planted]
   --seed S     a number, or `random`; else COMPARE_SEED; else 1
   --seconds T  stops after T seconds, 60 if not given; the run fails if fewer
                than N calls were compared by then; the fixed sweeps at its
-               start are always run whole (0.2 seconds, 2 in a debug build)
+               start don't count (0.4 seconds, 6 in a debug build)
   --planted    runs against plain with blunders; each must be found within N
                calls and T seconds, 5 at most";
 
