@@ -10,8 +10,9 @@ pub const CALLS_FOR_EVERY_ANSWER: u64 = 100_000;
 /// reader (11).
 const ANSWERS: [u32; 13] = [0, 1, 2, 3, 4, 5, 6, 7, 8, 9, 10, 11, 13];
 
-/// What replay must have answered.
-const REPLAY_ANSWERS: [u32; 3] = [100, 101, 102];
+/// What replay must have answered: lists accepted, refused as fresh and the
+/// writer refuse, and refused as no list.
+const REPLAY_ANSWERS: [u32; 7] = [0, 1, 5, 8, 100, 101, 102];
 
 /// How often each answer was given.
 pub type Answers = BTreeMap<u32, u64>;
@@ -78,7 +79,9 @@ mod tests {
         };
         (0..=11).for_each(|answer| counts.count_answer(answer));
         counts.count_answer(13);
-        (100..=102).for_each(|answer| counts.count_replay_answer(answer));
+        for answer in [0, 1, 5, 8, 100, 101, 102] {
+            counts.count_replay_answer(answer);
+        }
         counts
     }
 
