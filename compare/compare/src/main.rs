@@ -123,5 +123,8 @@ fn report_difference(found: &Found, seed: u64) {
         found.counts.pages, found.place
     );
     println!("{}", found.difference);
-    println!("again: compare --seed {seed} --calls {}", calls + 1);
+    println!(
+        "again: cargo run --offline --release -p compare -- --seed {seed} --calls {}",
+        calls + 1
+    );
 }
