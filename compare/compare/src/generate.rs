@@ -146,6 +146,11 @@ impl Generator {
         match kind {
             1 => numbers[0] = self.power(random, reach, page),
             6 => numbers[0] = mode(random, reach),
+            // Settings that change nothing still set Run 0 and write a line.
+            7 if random.one_in(4) => {
+                let fields = [field::THRESHOLD, field::OVER, field::UNDER];
+                numbers[..3].copy_from_slice(&fields.map(|field| field::get(page, field)));
+            }
             7 => {
                 numbers[0] = threshold(random, reach);
                 numbers[1] = duration(random, reach);

@@ -6,7 +6,7 @@ use plain::fault;
 
 type Run = fn(&Plan) -> Result<Counts, Box<Found>>;
 
-pub const PLANTED: [(&str, Run); 12] = [
+pub const PLANTED: [(&str, Run); 14] = [
     (
         "trips at power equal to threshold",
         run::<{ fault::TRIPS_AT_THRESHOLD }>,
@@ -48,5 +48,13 @@ pub const PLANTED: [(&str, Run); 12] = [
     (
         "reads any Exceeded byte",
         run::<{ fault::READS_ANY_EXCEEDED }>,
+    ),
+    (
+        "ignores a limiter setting that changes nothing",
+        run::<{ fault::IGNORES_SAME_LIMITER }>,
+    ),
+    (
+        "reconnects locally in mode 4",
+        run::<{ fault::LOCAL_RECONNECT_IN_4 }>,
     ),
 ];

@@ -29,3 +29,7 @@ pub const CUTS_MODE: u8 = 10;
 pub const SILENT_EMPTY_MASK: u8 = 11;
 /// The reader takes any Exceeded byte other than 0 for yes.
 pub const READS_ANY_EXCEEDED: u8 = 12;
+/// Setting the limiter to what it is does nothing.
+pub const IGNORES_SAME_LIMITER: u8 = 13;
+/// A local reconnect (h) in mode 4 too.
+pub const LOCAL_RECONNECT_IN_4: u8 = 14;
