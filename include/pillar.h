@@ -4,8 +4,10 @@
  * needs memcpy and memset, and nothing else.
  *
  * A meter's state is its page of PILLAR_PAGE bytes, which the caller keeps.
- * The core keeps nothing between calls, takes no memory and does no input or
- * output. Two threads may call it at once on pages of their own.
+ * The core does no input or output. It keeps nothing between calls, allocates
+ * nothing, and uses under 4 KiB of stack (measured on x86-64 in a static
+ * program; no proof covers it). Two threads may call it at once on pages of
+ * their own.
  *
  * Every function answers 0, or the number of a refusal. On a refusal every
  * byte of the page is as it was. Each function is proved to answer and to
