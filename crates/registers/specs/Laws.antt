@@ -6,6 +6,7 @@ use Rattle.base.specs.Bits.{bit}
 use Rattle.registers.specs.declared.Register.{Register}
 use Rattle.registers.specs.Register.{raised, cleared, withFilter}
 
+-- of a register, and of the number that a call brings: an event's mask, a mask to clear, a filter
 pub record Laws (r : Register) (n : ℕ) : Type 0 where
   -- a bit is set by an event that has it, unless the filter hides it at that moment
   pub raised-bit : (k : ℕ) → k < 32 → bit (raised r n .bits) k ≡ (bit (r .bits) k || (bit n k && not (bit (r .filter) k)))
