@@ -1,6 +1,7 @@
 // The limiter (DLMS class 71): samples above the threshold, counted.
 ghost use mathlib.Core.Path.{_≡_};
 ghost use Rattle.limiter.specs.Limiter.{isOver, isThreshold, isDuration, awaited, counts, withRun, watched, sampled, withSettings, soundLimiter};
+ghost use Rattle.limiter.specs.Laws.{Laws};
 
 pub struct Limiter {
     pub threshold: i32,
@@ -76,6 +77,7 @@ impl Limiter {
     // The limiter after a sample that is over or not.
     pub fn watch(self, over: bool) -> Watched
         ensures { λ r. ⌜ r ≡ watched self over ⌝ }
+        ensures laws { λ r. ⌜ Laws self over r ⌝ }
     {
         let exceeded = self.exceeded;
         let run = self.run;

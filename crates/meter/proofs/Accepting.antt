@@ -9,11 +9,13 @@ use lib.Signed.{leZ}
 use Prim.Native.Nat.{ℕ}
 use Rattle.base.proofs.Bools.{and-left, and-right}
 use Rattle.limiter.specs.Limiter.{isDuration}
+use Rattle.calls.specs.declared.Answer.{Answer}
 use Rattle.calls.specs.declared.Answer.the-variants.{Accepted, Refused}
 use Rattle.history.specs.Effects.{Fresh}
 use Rattle.meter.specs.declared.Outcome.{Outcome}
 use Rattle.meter.specs.State.{recordOf}
-use Rattle.meter.specs.Fresh.{freshState, Settings, SettingsInRange, leastSettings, refusedOutcome, freshOutcome, freshOf, FreshLaws}
+use Rattle.meter.specs.Fresh.{freshState, Settings, SettingsInRange, leastSettings, refusedOutcome, settingsBy, freshOf, FreshLaws}
+use Rattle.meter.specs.Settings.{freshAnswer}
 use Rattle.meter.proofs.Answers.{either}
 
 -- a fact of what fresh makes of settings, from a proof for each of its cases
@@ -24,11 +26,14 @@ by-cases : (P : Outcome → Type 0) (f : Fresh)
     → (leb (f .mode) 6 ≡ true → leZ (pos 0) (f .threshold) ≡ true → isDuration (f .over) && isDuration (f .under) ≡ true
     → P (record { meter = recordOf (freshState f); answer = Accepted }))
     → P (freshOf f)
-unfolding freshOutcome
+unfolding freshAnswer
 by-cases P f one four five rest =
-    either P (leb (f .mode) 6)
-    (λ m. either P (leZ (pos 0) (f .threshold)) (λ t. either P (isDuration (f .over) && isDuration (f .under)) (rest m t) five) four)
+    either made (leb (f .mode) 6)
+    (λ m. either made (leZ (pos 0) (f .threshold)) (λ t. either made (isDuration (f .over) && isDuration (f .under)) (rest m t) five) four)
     one
+  where
+    made : Answer → Type 0
+    made a = P (record { meter = recordOf (freshState (settingsBy a f)); answer = a })
 
 settings-accepted : (f : Fresh) → Settings f → freshOf f .answer ≡ Accepted
 settings-accepted f s =

@@ -25,21 +25,21 @@ use Rattle.limiter.specs.Limiter.{sampled as watchedSample}
 use Rattle.logs.specs.Lists.{changed}
 use Rattle.calls.specs.declared.Call.{Call}
 use Rattle.calls.specs.declared.Call.the-variants.{Sample, RemoteDisconnect, RemoteReconnect, ManualDisconnect, ManualReconnect, SetMode, SetLimiter, SetClock, Event, SetAlarmFilter, SetErrorFilter, ClearAlarms, ClearErrors, ClearLog, Script}
+use Rattle.calls.specs.declared.Answer.{Answer}
 use Rattle.calls.specs.declared.Answer.the-variants.{Accepted, Refused}
 use Rattle.calls.specs.declared.Parsed.{Parsed}
 use Rattle.calls.specs.declared.Parsed.the-variants.{Ok, NoKind}
 use Rattle.calls.specs.Calls.{callOf, InRange}
 use Rattle.history.specs.Effects.{Request, remoteDisconnect, remoteReconnect, manualDisconnect, manualReconnect, alarms, errors, Effect, sampled, requested, modeSet, limitsSet, clockSet, occurred, filterSet, bitsCleared, logCleared, listedModes, Reading, refused, accepted, readRequest, readLimits, readEvent, reading}
-use Rattle.logs.specs.Layout.{Sized}
 use Rattle.meter.specs.declared.Meter.{Meter}
 use Rattle.meter.specs.declared.Outcome.{Outcome}
 use Rattle.meter.specs.declared.step.Scalars.{Scalars}
 use Rattle.meter.specs.State.{State, stateOf, scalarsOf, recordOf, withControl}
-use Rattle.meter.specs.Sound.{soundMeter}
-use Rattle.meter.specs.Machine.{Result, refusing, lineNow, moving, decided, answering, requestResult, afterSample, sampleResult, modeResult, limiterResult, occurring, eventResult, clearLogResult, scriptResult, result, after, applied, performed, commanded}
+use Rattle.meter.specs.Sound.{soundMeter, soundState}
+use Rattle.meter.specs.Machine.{Result, refusing, making, moving, decided, answering, requestResult, modeResult, limiterResult, occurring, eventResult, clearLogResult, scriptResult, result, after, carriedOut, applied, performed, commanded}
 use Rattle.meter.specs.Laws.{answerOf}
+use Rattle.meter.proofs.Values.{state-of-record, record-sound}
 use Rattle.meter.proofs.Effects.{requestOf, effectResult, readResult, Proper}
-use Rattle.meter.proofs.Values.{record-of-state}
 
 -- a result that a test decides
 pub either : {A : Type 0} (P : A → Type 0) (b : Bool) {x y : A} → (b ≡ true → P x) → (b ≡ false → P y) → P (cond b x y)
@@ -104,8 +104,8 @@ module _ (s : Scalars) where
       (rows-listed switchTable (requestOf q) (s .control .mode) _ ∙ table-lists q (s .control .mode))
     where
       go : (d : Decision) (b : Bool) → d ≡ decided s (requestOf q) → listed d ≡ b → answering s d ≡ readResult s (cond b (accepted (requested q)) (refused 2))
-      go (Move t c o) true e h = ap (moving s []) e
-      go Stay true e h = ap (moving s []) e
+      go (Move t c o) true e h = ap (λ (x : Decision). making (moving s [] x)) e
+      go Stay true e h = ap (λ (x : Decision). making (moving s [] x)) e
       go NotListed false e h = refl
       go (Move t c o) false e h = cc
       go Stay false e h = cc
@@ -139,73 +139,30 @@ by-reading rows s (ClearErrors n) = refl
 by-reading rows s (ClearLog n) = simp (read-cond s)
 by-reading rows s (Script n) = simp (request-read s remoteDisconnect, request-read s remoteReconnect, read-cond s)
 
-moving-accepted : (s : Scalars) (xs : List Line) (d : Decision) → moving s xs d .answer ≡ Accepted
-moving-accepted s xs (Move t c o) = refl
-moving-accepted s xs Stay = refl
-moving-accepted s xs NotListed = refl
-
-abbrev AcceptedBy : Result → Type 0
-AcceptedBy r = r .answer ≡ Accepted
-
-sample-accepted : (s : Scalars) (w : Watched) → AcceptedBy (afterSample s w)
-sample-accepted s w =
-    either AcceptedBy (w .fired)
-    (λ f. either AcceptedBy (w .limiter .exceeded)
-    (λ x. moving-accepted s (lineNow s 65 ∷ []) (decided s request.LocalDisconnect))
-    (λ x. moving-accepted s (lineNow s 66 ∷ []) (decided s request.LocalReconnect)))
-    (λ f. refl)
-
-effect-accepted : (s : Scalars) (e : Effect) → AcceptedBy (effectResult s e)
-unfolding sampleResult
-effect-accepted s (sampled p) = sample-accepted _ (watchedSample (s .limiter) p)
-effect-accepted s (requested q) = moving-accepted s [] (decided s (requestOf q))
-effect-accepted s (modeSet n) =
-    moving-accepted (withControl s (inMode (s .control) n)) [] (modeDecision n (s .control .state))
-effect-accepted s (limitsSet t o u) = refl
-effect-accepted s (clockSet n) = refl
-effect-accepted s (occurred r) = refl
-effect-accepted s (filterSet alarms n) = refl
-effect-accepted s (filterSet errors n) = refl
-effect-accepted s (bitsCleared alarms n) = refl
-effect-accepted s (bitsCleared errors n) = refl
-effect-accepted s (logCleared n) = refl
-
-read-answer : (s : Scalars) (r : Reading) → readResult s r .answer ≡ answerOf r
-read-answer s (refused n) = refl
-read-answer s (accepted e) = effect-accepted s e
-
 -- each number under its condition only
-pub answer-number : (rows : List Row) (s : Scalars) (c : Call) → result rows s c .answer ≡ answerOf (reading rows (s .control .mode) c)
-answer-number rows s c =
-    ap (λ (r : Result). r .answer) (by-reading rows s c) ∙ read-answer s (reading rows (s .control .mode) c)
+read-answer : (m : Meter) (x : Reading) → carriedOut m (readResult (scalarsOf m) x) .answer ≡ answerOf x
+read-answer m (refused n) = refl
+read-answer m (accepted e) = refl
 
 module _ (rows : List Row) (m : Meter) (c : Call) where
   pub applied-answer : soundMeter rows m ≡ true → applied rows m c .answer ≡ answerOf (reading rows (m .control .mode) c)
   unfolding applied
-  applied-answer e = rw e (answer-number rows (scalarsOf m) c)
+  applied-answer e = rw (e, by-reading rows (scalarsOf m) c) (read-answer m (reading rows (m .control .mode) c))
 
   pub unsound-answer : soundMeter rows m ≡ false → applied rows m c ≡ record { meter = m; answer = Refused 12 }
   unfolding applied
   unsound-answer e = rw e
 
--- ---- on any refusal the values are as they were, and the record is the one that came in
-pub after-refused : (v : State) (n : ℕ) → after v (refusing (v .scalars) n) ≡ v
-unfolding changed
-after-refused v n = refl
+-- ---- on any refusal the record is the one that came in
+kept-same : (m : Meter) (r : Result) (n : ℕ) → carriedOut m r .answer ≡ Refused n → carriedOut m r .meter ≡ m
+kept-same m (refusing k) n h = refl
+kept-same m (making k) n h = cc
 
-module _ (rows : List Row) (m : Meter) (z : Sized (m .logs)) where
-  read-same : (e : soundMeter rows m ≡ true) (n : ℕ) (r : Reading) → answerOf r ≡ Refused n → recordOf (after (stateOf m) (readResult (scalarsOf m) r)) ≡ m
-  read-same e n (refused k) h = ap recordOf (after-refused (stateOf m) k) ∙ record-of-state rows m z e
-  read-same e n (accepted f) h = cc
-
+module _ (rows : List Row) (m : Meter) where
   pub refused-same : (c : Call) (n : ℕ) → applied rows m c .answer ≡ Refused n → applied rows m c .meter ≡ m
   unfolding applied
   refused-same c n =
-      either (λ (o : Outcome). o .answer ≡ Refused n → o .meter ≡ m) (soundMeter rows m)
-      (λ e h.
-      ap (λ (r : Result). recordOf (after (stateOf m) r)) (by-reading rows (scalarsOf m) c)
-      ∙ read-same e n (reading rows (m .control .mode) c) (sym (answer-number rows (scalarsOf m) c) ∙ h))
-      (λ e h. refl)
+      either (λ (o : Outcome). o .answer ≡ Refused n → o .meter ≡ m) (soundMeter rows m) (λ e h. kept-same m (result rows (scalarsOf m) c) n h) (λ e h. refl)
 
   performed-same : (p : Parsed) (n : ℕ) → performed rows m p .answer ≡ Refused n → performed rows m p .meter ≡ m
   performed-same (Ok c) n h = refused-same c n h
@@ -214,6 +171,20 @@ module _ (rows : List Row) (m : Meter) (z : Sized (m .logs)) where
   pub commanded-same : (k n1 n2 n3 n4 n5 n : ℕ) → commanded rows m k n1 n2 n3 n4 n5 .answer ≡ Refused n → commanded rows m k n1 n2 n3 n4 n5 .meter ≡ m
   unfolding commanded
   commanded-same k n1 n2 n3 n4 n5 = performed-same (callOf k n1 n2 n3 n4 n5)
+
+-- ---- the values after a result, and the machine on a laid-out record
+abbrev pub afterResult : State → Result → State
+afterResult v (refusing n) = v
+afterResult v (making k) = after v k
+
+pub applied-state : (rows : List Row) (v : State) → soundState rows v ≡ true → (c : Call)
+    → applied rows (recordOf v) c .meter ≡ recordOf (afterResult v (result rows (v .scalars) c))
+unfolding applied
+applied-state rows v e c = rw (record-sound rows v e) (go (result rows (v .scalars) c))
+  where
+    go : (r : Result) → carriedOut (recordOf v) r .meter ≡ recordOf (afterResult v r)
+    go (refusing n) = refl
+    go (making k) = ap (λ (w : State). recordOf (after w k)) (state-of-record rows v e)
 
 -- ---- what an accepted call asks for is proper
 abbrev ProperReading : ℕ → Reading → Type 0

@@ -3,7 +3,6 @@ use Prim.Native.Nat.{ℕ, suc}
 use mathlib.Core.Path.{_≡_}
 use mathlib.Core.Bool.{true, cond}
 use mathlib.Core.List.{[], _∷_}
-use mathlib.Core.Option.{some}
 use lib.Dec.{leb}
 use lib.IntN.{pos}
 use lib.Signed.{leZ}
@@ -18,7 +17,6 @@ use Rattle.control.specs.declared.Request.{Request as ControlRequest}
 use Rattle.control.specs.Control.{modeDecision, inMode}
 use Rattle.limiter.specs.declared.Limiter.{Limiter}
 use Rattle.limiter.specs.Limiter.{withSettings}
-use Rattle.calls.specs.declared.Answer.the-variants.{Accepted}
 use Rattle.calls.specs.Calls.{Word}
 use Rattle.history.specs.Effects.{Fresh, Request, remoteDisconnect, remoteReconnect, manualDisconnect, manualReconnect, Register, alarms, errors, Effect, sampled, requested, modeSet, limitsSet, clockSet, occurred, filterSet, bitsCleared, logCleared, listedModes, Reading, refused, accepted}
 use Rattle.history.specs.Last.{History, modeOf, limitsOf, filterOf, clockOf}
@@ -28,7 +26,7 @@ use Rattle.history.specs.Registers.{bitsOf}
 use Rattle.history.specs.Account.{opens}
 use Rattle.meter.specs.declared.step.Scalars.{Scalars}
 use Rattle.meter.specs.State.{withControl, withLimiter, withAlarms, withErrors}
-use Rattle.meter.specs.Machine.{Result, refusing, owing, lineNow, moving, decided, sampleResult, clockResult, occurring}
+use Rattle.meter.specs.Machine.{Change, Result, refusing, making, owing, lineNow, moving, decided, sampleResult, clockResult, reported}
 
 abbrev pub requestOf : Request → ControlRequest
 requestOf remoteDisconnect = request.RemoteDisconnect
@@ -37,23 +35,23 @@ requestOf manualDisconnect = request.ManualDisconnect
 requestOf manualReconnect = request.ManualReconnect
 
 -- what an accepted call makes of the scalars
-abbrev pub effectResult : Scalars → Effect → Result
+abbrev pub effectResult : Scalars → Effect → Change
 effectResult s (sampled p) = sampleResult s p
 effectResult s (requested q) = moving s [] (decided s (requestOf q))
 effectResult s (modeSet n) = moving (withControl s (inMode (s .control) n)) [] (modeDecision n (s .control .state))
 effectResult s (limitsSet t o u) = owing (withLimiter s (withSettings (s .limiter) t o u)) 3 (lineNow s 67 ∷ [])
 effectResult s (clockSet n) = clockResult s n
-effectResult s (occurred r) = occurring s (some r)
+effectResult s (occurred r) = reported s r
 effectResult s (filterSet alarms n) = owing (withAlarms s (withFilter (s .alarms) n)) 0 []
 effectResult s (filterSet errors n) = owing (withErrors s (withFilter (s .errors) n)) 0 []
 effectResult s (bitsCleared alarms n) = owing (withAlarms s (cleared (s .alarms) n)) 1 (lineNow s 11 ∷ [])
 effectResult s (bitsCleared errors n) = owing (withErrors s (cleared (s .errors) n)) 1 (lineNow s 10 ∷ [])
-effectResult s (logCleared n) = record { scalars = s; answer = Accepted; cleared = n; log = n; lines = lineNow s 255 ∷ [] }
+effectResult s (logCleared n) = record { scalars = s; cleared = n; log = n; lines = lineNow s 255 ∷ [] }
 
 -- a call as it is read: refused, or carried out
 abbrev pub readResult : Scalars → Reading → Result
-readResult s (refused n) = refusing s n
-readResult s (accepted e) = effectResult s e
+readResult s (refused n) = refusing n
+readResult s (accepted e) = making (effectResult s e)
 
 -- what holds of an accepted call, given the mode that it met
 abbrev pub Proper : ℕ → Effect → Type 0

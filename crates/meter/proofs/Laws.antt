@@ -11,6 +11,7 @@ use Rattle.calls.specs.Calls.{AllInRange}
 use Rattle.meter.specs.Laws.{Laws}
 use Rattle.meter.proofs.Values.{record-of-state, state-of-record}
 use Rattle.meter.proofs.Answers.{applied-answer, refused-same, commanded-same}
+use Rattle.meter.proofs.Tail.{in-parts, command-in-parts}
 use Rattle.meter.proofs.Preserved.{applied-sound, run-sound}
 use Rattle.meter.proofs.Simulates.{simulates}
 
@@ -25,9 +26,11 @@ laws rows table =
       record-of-state = record-of-state rows;
       state-of-record = state-of-record rows;
       kept-sound = λ m c z i e. applied-sound rows table m c i z e;
+      in-parts = in-parts rows;
+      command-in-parts = command-in-parts rows;
       answers = applied-answer rows;
-      refused-same = λ m c n z e. refused-same rows m z c n e;
-      command-refused-same = λ m k n1 n2 n3 n4 n5 n z e. commanded-same rows m z k n1 n2 n3 n4 n5 n e;
+      refused-same = refused-same rows;
+      command-refused-same = commanded-same rows;
       reached-sound = λ f calls t i. run-sound rows table f t (reverse calls) (turned calls [] i tt);
       simulates = λ f calls t i. simulates rows table f t (reverse calls) (turned calls [] i tt);
     }

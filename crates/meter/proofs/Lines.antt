@@ -13,10 +13,10 @@ use Rattle.logs.specs.Lists.{changed, appended, emptied}
 use Rattle.history.specs.Effects.{Fresh, Effect}
 use Rattle.history.specs.Last.{History}
 use Rattle.history.specs.Logs.{when, owedBy, clearsLog, owed, logOf}
-use Rattle.meter.specs.Machine.{Result}
+use Rattle.meter.specs.Machine.{Change}
 
 -- what a result owes to each log, and which log it clears, are the account's
-pub record Owing (f : Fresh) (e : Effect) (h : History) (r : Result) : Type 0 where
+pub record Owing (f : Fresh) (e : Effect) (h : History) (r : Change) : Type 0 where
   pub lines : (n : ℕ) → isLog n ≡ true → cond (eqb n (r .log)) (r .lines) [] ≡ owedBy f n e h
   pub cleared : (n : ℕ) → isLog n ≡ true → eqb n (r .cleared) ≡ clearsLog n e
 
@@ -47,7 +47,7 @@ newest-owed true false xs ys = refl
 newest-owed false true xs ys = newest-again xs ys
 newest-owed false false xs ys = ap newest (sym (append-nil xs))
 
-module _ (f : Fresh) (e : Effect) (h : History) (r : Result) (o : Owing f e h r) where
+module _ (f : Fresh) (e : Effect) (h : History) (r : Change) (o : Owing f e h r) where
   -- log n after the clear
   abbrev emptiedLog : ℕ → List Line
   emptiedLog n = cond (eqb n (r .cleared)) [] (logOf f n h)

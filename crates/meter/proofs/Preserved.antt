@@ -42,10 +42,10 @@ use Rattle.meter.specs.declared.Outcome.{Outcome}
 use Rattle.meter.specs.declared.step.Scalars.{Scalars}
 use Rattle.meter.specs.State.{State, stateOf, scalarsOf, withControl}
 use Rattle.meter.specs.Sound.{soundScalars, soundMeter, soundState}
-use Rattle.meter.specs.Machine.{Result, refusing, lineNow, moving, decided, answering, requestResult, afterSample, sampleResult, modeResult, limiterResult, occurring, eventResult, clearLogResult, scriptResult, result, after, applied}
+use Rattle.meter.specs.Machine.{Change, Result, refusing, making, lineNow, moving, decided, answering, requestResult, afterSample, sampleResult, modeResult, limiterResult, occurring, eventResult, clearLogResult, scriptResult, result, after, carriedOut, applied}
 use Rattle.meter.specs.Fresh.{Settings, freshState, recordAfter}
 use Rattle.meter.proofs.Values.{laid-sized, state-sound, scalars-sound, logs-sound, record-sound, record-sized}
-use Rattle.meter.proofs.Answers.{either}
+use Rattle.meter.proofs.Answers.{either, afterResult}
 
 module _ (rows : List Row) where
   -- whatever the event table, a log may hold the codes that document 01 lists besides
@@ -90,21 +90,21 @@ module _ (s : Scalars) (h : soundScalars s ≡ true) where
   limiter-sound = and-right (soundControl (s .control)) (soundLimiter (s .limiter)) h
 
 -- the scalars that a call leaves are sound, and its lines may stand in their log
-pub record SoundResult (rows : List Row) (r : Result) : Type 0 where
-  pub scalars : soundScalars (r .scalars) ≡ true
-  pub lines : ownLines rows (r .log) (r .lines) ≡ true
+pub record SoundChange (rows : List Row) (k : Change) : Type 0 where
+  pub scalars : soundScalars (k .scalars) ≡ true
+  pub lines : ownLines rows (k .log) (k .lines) ≡ true
+
+abbrev SoundResult : List Row → Result → Type 0
+SoundResult rows (refusing n) = Unit
+SoundResult rows (making k) = SoundChange rows k
 
 module _ (rows : List Row) where
-  refusing-sound : (s : Scalars) (n : ℕ) → soundScalars s ≡ true → SoundResult rows (refusing s n)
-  unfolding every
-  refusing-sound s n h = record { scalars = h; lines = refl }
-
   -- a move of the switch table, behind lines that log 3 may hold
-  moving-sound : (s : Scalars) (xs : List Line) (q : Request) → soundScalars s ≡ true → ownLines rows 3 xs ≡ true → SoundResult rows (moving s xs (decided s q))
+  moving-sound : (s : Scalars) (xs : List Line) (q : Request) → soundScalars s ≡ true → ownLines rows 3 xs ≡ true → SoundChange rows (moving s xs (decided s q))
   unfolding soundScalars
   moving-sound s xs q h o = go (decided s q) refl
     where
-      go : (d : Decision) → decided s q ≡ d → SoundResult rows (moving s xs d)
+      go : (d : Decision) → decided s q ≡ d → SoundChange rows (moving s xs d)
       go (Move t c b) e =
           record {
             scalars = scalars-of _ (s .limiter) (moved-sound _ q _ c b e) (limiter-sound s h);
@@ -119,22 +119,22 @@ module _ (rows : List Row) where
   unfolding requestResult every
   request-sound s q h = go (decided s q) (moving-sound s [] q h refl)
     where
-      go : (d : Decision) → SoundResult rows (moving s [] d) → SoundResult rows (answering s d)
+      go : (d : Decision) → SoundChange rows (moving s [] d) → SoundResult rows (answering s d)
       go (Move t c b) k = k
       go Stay k = k
-      go NotListed k = refusing-sound s 2 h
+      go NotListed k = tt
 
   -- lines 65 and 66, and behind them the local moves
-  firing-sound : (s : Scalars) (w : Watched) → soundScalars s ≡ true → SoundResult rows (afterSample s w)
+  firing-sound : (s : Scalars) (w : Watched) → soundScalars s ≡ true → SoundChange rows (afterSample s w)
   unfolding besides among every
   firing-sound s w h =
-      either (SoundResult rows) (w .fired)
-      (λ f. either (SoundResult rows) (w .limiter .exceeded)
+      either (SoundChange rows) (w .fired)
+      (λ f. either (SoundChange rows) (w .limiter .exceeded)
       (λ x. moving-sound s (lineNow s 65 ∷ []) request.LocalDisconnect h (further-own rows 3 (s .clock) 65 refl refl))
       (λ x. moving-sound s (lineNow s 66 ∷ []) request.LocalReconnect h (further-own rows 3 (s .clock) 66 refl refl)))
       (λ f. record { scalars = h; lines = refl })
 
-  sample-sound : (s : Scalars) (p : ℤ) → soundScalars s ≡ true → SoundResult rows (sampleResult s p)
+  sample-sound : (s : Scalars) (p : ℤ) → soundScalars s ≡ true → SoundChange rows (sampleResult s p)
   unfolding sampleResult soundScalars
   sample-sound s p h =
       let w = sampled (s .limiter) p in
@@ -147,10 +147,10 @@ module _ (rows : List Row) where
   mode-sound s n h =
       either (SoundResult rows) (leb n 6)
       (λ k. go k (eqb n 0 && not (eqb (s .control .state) 1)) refl)
-      (λ k. refusing-sound s 1 h)
+      (λ k. tt)
     where
       go : leb n 6 ≡ true → (b : Bool) → modeDecision n (s .control .state) ≡ cond b (Move 1 63 false) Stay
-          → SoundResult rows (moving (withControl s (inMode (s .control) n)) [] (cond b (Move 1 63 false) Stay))
+          → SoundChange rows (moving (withControl s (inMode (s .control) n)) [] (cond b (Move 1 63 false) Stay))
       go k true e =
           record {
             scalars = scalars-of _ (s .limiter) (mode-moved-sound _ (s .control .state) 63 false k e) (limiter-sound s h);
@@ -173,15 +173,15 @@ module _ (rows : List Row) where
             (settings-sound (s .limiter) t o u (rw (a, i)) (and-left (isDuration o) (isDuration u) b) (and-right (isDuration o) (isDuration u) b));
         lines = further-own rows 3 (s .clock) 67 refl refl;
       })
-      (λ b. refusing-sound s 5 h))
-      (λ a. refusing-sound s 4 h)
+      (λ b. tt))
+      (λ a. tt)
 
   event-sound : every lawful rows ≡ true → (s : Scalars) (c : ℕ) → soundScalars s ≡ true → SoundResult rows (eventResult rows s c)
   unfolding eventResult soundScalars
   event-sound all s c h = go (lookup rows c) refl
     where
       go : (o : Option Row) → lookup rows c ≡ o → SoundResult rows (occurring s o)
-      go none e = refusing-sound s 6 h
+      go none e = tt
       go (some r) e =
           record {
             scalars = h;
@@ -193,13 +193,13 @@ module _ (rows : List Row) where
   clear-log-sound s n h =
       either (SoundResult rows) (isLog n)
       (λ l. record { scalars = h; lines = further-own rows n (s .clock) 255 l (clear-listed n) })
-      (λ l. refusing-sound s 7 h)
+      (λ l. tt)
 
   script-sound : (s : Scalars) (n : ℕ) → soundScalars s ≡ true → SoundResult rows (scriptResult s n)
   unfolding scriptResult
   script-sound s n h =
       either (SoundResult rows) (eqb n 1) (λ a. request-sound s request.RemoteDisconnect h)
-      (λ a. either (SoundResult rows) (eqb n 2) (λ b. request-sound s request.RemoteReconnect h) (λ b. refusing-sound s 3 h))
+      (λ a. either (SoundResult rows) (eqb n 2) (λ b. request-sound s request.RemoteReconnect h) (λ b. tt))
 
   pub result-sound : every lawful rows ≡ true → (s : Scalars) (c : Call) → InRange c → soundScalars s ≡ true → SoundResult rows (result rows s c)
   unfolding soundScalars besides among every
@@ -226,23 +226,28 @@ module _ (rows : List Row) where
   result-sound all s (Script n) i h = script-sound s n h
 
   -- ---- the values, and the record
-  after-sound : (v : State) (r : Result) → soundState rows v ≡ true → SoundResult rows r → soundState rows (after v r) ≡ true
+  after-sound : (v : State) (r : Result) → soundState rows v ≡ true → SoundResult rows r → soundState rows (afterResult v r) ≡ true
   unfolding soundState
-  after-sound v r e k =
+  after-sound v (refusing n) e k = e
+  after-sound v (making r) e k =
       rw (k .scalars)
       (appended-sound rows (emptied (r .cleared) (v .logs)) (emptied-sound rows (v .logs) (logs-sound rows v e) (r .cleared)) (r .log) (r .lines) (k .lines))
 
 module _ (rows : List Row) (all : every lawful rows ≡ true) where
-  pub kept-sound : (v : State) (c : Call) → InRange c → soundState rows v ≡ true → soundState rows (after v (result rows (v .scalars) c)) ≡ true
+  pub kept-sound : (v : State) (c : Call) → InRange c → soundState rows v ≡ true → soundState rows (afterResult v (result rows (v .scalars) c)) ≡ true
   kept-sound v c i e = after-sound rows v (result rows (v .scalars) c) e (result-sound rows all (v .scalars) c i (scalars-sound rows v e))
 
   module _ (m : Meter) (c : Call) (i : InRange c) (z : Sized (m .logs)) where
     pub applied-sound : soundMeter rows m ≡ true → soundMeter rows (applied rows m c .meter) ≡ true
     unfolding applied
-    applied-sound e = rw e (record-sound rows _ (kept-sound (stateOf m) c i (state-sound rows m z e)))
+    applied-sound e = rw e (go (result rows (scalarsOf m) c) (kept-sound (stateOf m) c i (state-sound rows m z e)))
+      where
+        go : (r : Result) → soundState rows (afterResult (stateOf m) r) ≡ true → soundMeter rows (carriedOut m r .meter) ≡ true
+        go (refusing n) k = e
+        go (making r) k = record-sound rows (after (stateOf m) r) k
 
 -- ---- whatever a call is, the arrays keep their types' lengths
-after-sized : (rows : List Row) (g : Logs) (r : Result) → Sized g → soundLogs rows g ≡ true → Sized (laid (appended (r .log) (r .lines) (emptied (r .cleared) (listsOf g))))
+after-sized : (rows : List Row) (g : Logs) (r : Change) → Sized g → soundLogs rows g ≡ true → Sized (laid (appended (r .log) (r .lines) (emptied (r .cleared) (listsOf g))))
 after-sized rows g r z e =
     let empty = emptied (r .cleared) (listsOf g) in
     let short = changed-short (r .cleared) (λ xs. []) (listsOf g) (λ xs. omega arith) (read-short rows g z e) in
@@ -253,8 +258,12 @@ pub applied-sized : (rows : List Row) (m : Meter) (c : Call) → Sized (m .logs)
 unfolding applied soundMeter
 applied-sized rows m c z =
     either (λ (o : Outcome). Sized (o .meter .logs)) (soundMeter rows m)
-    (λ e. after-sized rows (m .logs) (result rows (scalarsOf m) c) z (and-right (soundScalars (scalarsOf m)) (soundLogs rows (m .logs)) e))
+    (λ e. go (result rows (scalarsOf m) c) (and-right (soundScalars (scalarsOf m)) (soundLogs rows (m .logs)) e))
     (λ e. z)
+  where
+    go : (r : Result) → soundLogs rows (m .logs) ≡ true → Sized (carriedOut m r .meter .logs)
+    go (refusing n) e = z
+    go (making r) e = after-sized rows (m .logs) r z e
 
 -- ---- the fresh meter
 pub fresh-sound : (rows : List Row) (f : Fresh) → Settings f → soundState rows (freshState f) ≡ true

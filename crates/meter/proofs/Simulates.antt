@@ -27,8 +27,7 @@ use Rattle.meter.specs.Sound.{soundState}
 use Rattle.meter.specs.Machine.{after, result, applied}
 use Rattle.meter.specs.Fresh.{Settings, freshState, holding, recordAfter}
 use Rattle.meter.proofs.Effects.{effectResult, readResult, Proper, AllProper, none, more, scalarsOf, nextOpenings}
-use Rattle.meter.proofs.Values.{applied-state}
-use Rattle.meter.proofs.Answers.{by-reading, after-refused, proper}
+use Rattle.meter.proofs.Answers.{by-reading, afterResult, applied-state, proper}
 use Rattle.meter.proofs.Preserved.{kept-sound, fresh-sound}
 use Rattle.meter.proofs.Clock.{clock-after}
 use Rattle.meter.proofs.Registers.{register-after}
@@ -100,7 +99,7 @@ module _ (rows : List Row) (table : every lawful rows ≡ true) (f : Fresh) (t :
       go (accepted x) e a = more (proper rows table m c x (i .0) e) a
 
   -- one more call, accepted or refused
-  next : (c : Call) (cs : List Call) → InRange c → AllInRange cs → after (named cs) (result rows (named cs .scalars) c) ≡ named (c ∷ cs)
+  next : (c : Call) (cs : List Call) → InRange c → AllInRange cs → afterResult (named cs) (result rows (named cs .scalars) c) ≡ named (c ∷ cs)
   unfolding acceptedCalls openings
   next c cs i k = rw (by-reading rows (named cs .scalars) c) (go (reading rows (modeOf f h) c) refl)
     where
@@ -111,9 +110,9 @@ module _ (rows : List Row) (table : every lawful rows ≡ true) (f : Fresh) (t :
       n = openings rows f cs
 
       go : (x : Reading) → reading rows (modeOf f h) c ≡ x
-          → after (named cs) (readResult (named cs .scalars) x)
+          → afterResult (named cs) (readResult (named cs .scalars) x)
           ≡ holding (accountOf f (grown x h) (cond (opens (switchOf f h) (switchOf f (grown x h))) (suc n) n))
-      go (refused k) e = after-refused (named cs) k ∙ ap (λ (o : ℕ). holding (accountOf f h o)) (sym (refused-openings (switchOf f h) n))
+      go (refused k) e = ap (λ (o : ℕ). holding (accountOf f h o)) (sym (refused-openings (switchOf f h) n))
       go (accepted x) e = effect-after f h x n t (all-proper cs k) (proper rows table (modeOf f h) c x i e)
 
   -- the values that the account names are sound
@@ -128,5 +127,5 @@ module _ (rows : List Row) (table : every lawful rows ≡ true) (f : Fresh) (t :
   simulates [] i = ap recordOf (fresh-values f t)
   simulates (c ∷ cs) i =
       ap (λ (m : Meter). applied rows m c .meter) (simulates cs (i .1))
-      ∙ ap (λ (o : Outcome). o .meter) (applied-state rows (named cs) (named-sound cs (i .1)) c)
+      ∙ applied-state rows (named cs) (named-sound cs (i .1)) c
       ∙ ap recordOf (next c cs (i .0) (i .1))

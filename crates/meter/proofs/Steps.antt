@@ -21,7 +21,8 @@ use Rattle.limiter.specs.declared.Watched.{Watched}
 use Rattle.meter.specs.declared.step.Scalars.{Scalars}
 use Rattle.meter.specs.declared.step.Step.{Step}
 use Rattle.meter.specs.State.{withAlarms, withErrors}
-use Rattle.meter.specs.Machine.{refusing, owing, lineNow, moving, decided, afterSample, occurring, stepOf}
+use Rattle.meter.specs.Machine.{refusing, owing, lineNow, moving, decided, afterSample, occurring}
+use Rattle.meter.specs.Parts.{stepFor, stepOf}
 
 -- ---- call 7: the code's test of the sign is the machine's
 sign : (z : ℤ) (b : Bool) → ltZ z (pos 0) ≡ b → leZ (pos 0) z ≡ not b
@@ -34,26 +35,26 @@ threshold-sign z b h e = sign z b (rw (toZ-ofZ {w = w32} {z = z} h) at e)
 -- ---- call 9
 abbrev pub reporting : Scalars → Found → Step
 reporting s (Listed e) =
-    stepOf
+    stepFor
     (owing
     (withErrors (withAlarms s (raised (s .alarms) (e .alarms))) (raised (s .errors) (e .errors)))
     (e .log)
     (lineNow s (e .code) ∷ []))
-reporting s NotListed = stepOf (refusing s 6)
+reporting s NotListed = stepOf s (refusing 6)
 
-pub reporting-found : (s : Scalars) (o : Option Row) → reporting s (foundOf o) ≡ stepOf (occurring s o)
+pub reporting-found : (s : Scalars) (o : Option Row) → reporting s (foundOf o) ≡ stepOf s (occurring s o)
 reporting-found s none = refl
 reporting-found s (some r) = refl
 
 -- ---- call 1
 module _ (s : Scalars) (w : Watched) where
-  pub after-none : w .fired ≡ false → stepOf (owing s 3 []) ≡ stepOf (afterSample s w)
+  pub after-none : w .fired ≡ false → stepFor (owing s 3 []) ≡ stepFor (afterSample s w)
   after-none f = rw f
 
   pub after-over : w .fired ≡ true → w .limiter .exceeded ≡ true
-      → stepOf (moving s (lineNow s 65 ∷ []) (decided s LocalDisconnect)) ≡ stepOf (afterSample s w)
+      → stepFor (moving s (lineNow s 65 ∷ []) (decided s LocalDisconnect)) ≡ stepFor (afterSample s w)
   after-over f e = rw (f, e)
 
   pub after-under : w .fired ≡ true → w .limiter .exceeded ≡ false
-      → stepOf (moving s (lineNow s 66 ∷ []) (decided s LocalReconnect)) ≡ stepOf (afterSample s w)
+      → stepFor (moving s (lineNow s 66 ∷ []) (decided s LocalReconnect)) ≡ stepFor (afterSample s w)
   after-under f e = rw (f, e)

@@ -32,7 +32,7 @@ use Rattle.history.specs.Logs.{when, moves, requestCode}
 use Rattle.history.specs.Account.{opens}
 use Rattle.meter.specs.declared.step.Scalars.{Scalars}
 use Rattle.meter.specs.State.{withControl, withLimiter, withClock}
-use Rattle.meter.specs.Machine.{Result, owing, lineNow, moving, decided, afterSample, sampleResult}
+use Rattle.meter.specs.Machine.{Change, owing, lineNow, moving, decided, afterSample, sampleResult}
 use Rattle.meter.specs.Fresh.{Settings}
 use Rattle.meter.proofs.Ranges.{mode-range}
 use Rattle.meter.proofs.Effects.{requestOf, effectResult, Proper, AllProper, controlOf, limiterOf, scalarsOf, nextOpenings}
@@ -332,9 +332,9 @@ unmoved f h n = rw (and-not-self (eqb (switchOf f h) 1))
 
 pub control-kept : (f : Fresh) (h : History) (e : Effect) (n : ℕ) → Settings f → AllProper f h → Proper (modeOf f h) e → effectResult (scalarsOf f h (held n)) e .scalars .control ≡ controlOf f (e ∷ h) (held (nextOpenings f e h n))
 unfolding last spell switchOf
-control-kept f h (sampled p) n s a k = ap (λ (r : Result). r .scalars .control) (sampled-result f h p n s a)
-control-kept f h (requested q) n s a k = ap (λ (r : Result). r .scalars .control) (requested-result f h q n k)
-control-kept f h (modeSet m) n s a k = ap (λ (r : Result). r .scalars .control) (mode-result f h m n)
+control-kept f h (sampled p) n s a k = ap (λ (r : Change). r .scalars .control) (sampled-result f h p n s a)
+control-kept f h (requested q) n s a k = ap (λ (r : Change). r .scalars .control) (requested-result f h q n k)
+control-kept f h (modeSet m) n s a k = ap (λ (r : Change). r .scalars .control) (mode-result f h m n)
 control-kept f h (limitsSet t o u) n s a k = unmoved f h n
 control-kept f h (clockSet m) n s a k = unmoved f h n
 control-kept f h (occurred r) n s a k = unmoved f h n
@@ -346,9 +346,9 @@ control-kept f h (logCleared m) n s a k = unmoved f h n
 
 pub limiter-kept : (f : Fresh) (h : History) (e : Effect) (n : ℕ) → Settings f → AllProper f h → Proper (modeOf f h) e → effectResult (scalarsOf f h (held n)) e .scalars .limiter ≡ limiterOf f (e ∷ h)
 unfolding last observations
-limiter-kept f h (sampled p) n s a k = ap (λ (r : Result). r .scalars .limiter) (sampled-result f h p n s a)
-limiter-kept f h (requested q) n s a k = ap (λ (r : Result). r .scalars .limiter) (requested-result f h q n k)
-limiter-kept f h (modeSet m) n s a k = ap (λ (r : Result). r .scalars .limiter) (mode-result f h m n)
+limiter-kept f h (sampled p) n s a k = ap (λ (r : Change). r .scalars .limiter) (sampled-result f h p n s a)
+limiter-kept f h (requested q) n s a k = ap (λ (r : Change). r .scalars .limiter) (requested-result f h q n k)
+limiter-kept f h (modeSet m) n s a k = ap (λ (r : Change). r .scalars .limiter) (mode-result f h m n)
 limiter-kept f h (limitsSet t o u) n s a k = limiter-limited f h t o u
 limiter-kept f h (clockSet m) n s a k = refl
 limiter-kept f h (occurred r) n s a k = refl

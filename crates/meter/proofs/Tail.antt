@@ -2,9 +2,9 @@
 -- Assumes nothing.
 use Prim.Native.Nat.{ℕ, _≤_}
 use native.Mathlib.Omega.{arith}
-use mathlib.Core.Path.{_≡_, ap, _∙_, sym}
-use mathlib.Core.Bool.{Bool, true, false, _&&_}
-use mathlib.Core.List.{List, map}
+use mathlib.Core.Path.{_≡_, refl, ap, _∙_, sym}
+use mathlib.Core.Bool.{Bool, true, false, _&&_, cond}
+use mathlib.Core.List.{List, [], map}
 use lib.ListN.{length, take, length-map, length-append}
 use lib.Seq.{take-at, length-take-le}
 use Rattle.base.proofs.Bools.{and-right}
@@ -12,7 +12,7 @@ use Rattle.events.specs.Line.{Line}
 use Rattle.events.specs.Table.{Row}
 use Rattle.logs.specs.declared.Logs.{Logs}
 use Rattle.logs.specs.Lists.{appended, emptied}
-use Rattle.logs.specs.Arrays.{soundArrays}
+use Rattle.logs.specs.Arrays.{soundArrays, extended, counted, zeroed, uncounted}
 use Rattle.logs.specs.Layout.{Sized, clockOf, codeOf, laid, listsOf, soundLogs, extendedArrays, zeroedArrays}
 use Rattle.logs.proofs.Read.{read-short, read-three, laid-lists}
 use Rattle.logs.proofs.Laid.{zeroed-laid, extended-laid}
@@ -20,13 +20,17 @@ use Rattle.logs.proofs.Inverse.{lists-sound}
 use Rattle.logs.proofs.Kept.{emptied-sound, lists-short, lists-length}
 use Rattle.calls.specs.declared.Call.{Call}
 use Rattle.calls.specs.declared.Answer.the-variants.{Refused}
+use Rattle.calls.specs.declared.Parsed.{Parsed}
+use Rattle.calls.specs.declared.Parsed.the-variants.{Ok, NoKind}
+use Rattle.calls.specs.Calls.{callOf}
 use Rattle.meter.specs.declared.Meter.{Meter}
 use Rattle.meter.specs.declared.Outcome.{Outcome}
 use Rattle.meter.specs.declared.step.Scalars.{Scalars}
 use Rattle.meter.specs.declared.step.Step.{Step}
 use Rattle.meter.specs.State.{scalarsOf, withLogs}
 use Rattle.meter.specs.Sound.{soundScalars, soundMeter}
-use Rattle.meter.specs.Machine.{Result, inTwo, result, applied, stepOf, outcomeOf}
+use Rattle.meter.specs.Machine.{Change, Result, refusing, making, result, carriedOut, applied, performed, commanded}
+use Rattle.meter.specs.Parts.{inTwo, stepOf, outcomeOf, leftIn, appliedInParts, performedInParts, commandedInParts}
 
 -- ---- the lines of a step, as the code has them
 module _ (f : Line → ℕ) (xs : List Line) where
@@ -43,8 +47,8 @@ unfolding soundMeter soundLogs
 sound-is rows m a b p q = rw (p, q)
 
 pub not-sound : (rows : List Row) (m : Meter) (c : Call) → soundMeter rows m ≡ false
-    → _≡_ {A = Outcome} (record { meter = m; answer = Refused 12 }) (applied rows m c)
-unfolding applied
+    → _≡_ {A = Outcome} (record { meter = m; answer = Refused 12 }) (appliedInParts rows m c)
+unfolding appliedInParts
 not-sound rows m c e = rw e
 
 -- ---- the record taken apart
@@ -53,7 +57,7 @@ pub of-parts : (rows : List Row) (m : Meter) (c : Call) (s : Scalars) (o : Outco
 of-parts rows m c s o e p = rw (p, e)
 
 -- ---- the logs
-module _ (rows : List Row) (g : Logs) (z : Sized g) (e : soundLogs rows g ≡ true) (r : Result) where
+module _ (rows : List Row) (g : Logs) (z : Sized g) (e : soundLogs rows g ≡ true) (r : Change) where
   -- the arrays as the code leaves them
   abbrev left : Logs
   left = extendedArrays (r .log) (map clockOf (r .lines)) (map codeOf (r .lines)) (zeroedArrays (r .cleared) g)
@@ -69,20 +73,57 @@ module _ (rows : List Row) (g : Logs) (z : Sized g) (e : soundLogs rows g ≡ tr
       ∙ ap put cleared
       ∙ extended-laid (r .log) empty (lists-length rows empty sound) (lists-short rows empty sound) (r .lines)
 
-module _ (rows : List Row) (m : Meter) (c : Call) (z : Sized (m .logs)) (e : soundMeter rows m ≡ true) where
-  -- what the code leaves of the record: the arrays g₀ after the clear, and g after the lines
-  pub finished : (s : Step) (g₀ g : Logs) → s ≡ stepOf (result rows (scalarsOf m) c) → g₀ ≡ zeroedArrays (s .cleared) (m .logs)
-      → g ≡ extendedArrays (s .log) (take (s .count) (s .clocks)) (take (s .count) (s .codes)) g₀
-      → outcomeOf (record { scalars = s .scalars; answer = s .answer }) (g .counts) (g .clocks) (g .codes) ≡ applied rows m c
-  unfolding applied soundMeter
-  finished s g₀ g steps clears adds =
-      let r = result rows (scalarsOf m) c in
-      rw (adds, clears, steps, first-lines clockOf (r .lines), first-lines codeOf (r .lines), e)
-      (rw (logs-after rows (m .logs) z (and-right (soundScalars (scalarsOf m)) (soundLogs rows (m .logs)) e) r))
+-- what a step leaves of a record, by the functions on the arrays
+abbrev leftBy : Meter → Step → Outcome
+leftBy m x =
+    let h = extendedArrays (x .log) (take (x .count) (x .clocks)) (take (x .count) (x .codes)) (zeroedArrays (x .cleared) (m .logs)) in
+    outcomeOf (record { scalars = x .scalars; answer = x .answer }) (h .counts) (h .clocks) (h .codes)
+
+-- a step that clears no log and owes no line leaves the arrays
+nothing-owed : (m : Meter) (n : ℕ) → leftBy m (stepOf (scalarsOf m) (refusing n)) ≡ leftIn m (refusing n)
+unfolding extendedArrays zeroedArrays counted extended uncounted zeroed
+nothing-owed m n = refl
+
+-- what the code leaves of the record: the arrays g₀ after the clear, and g after the lines
+pub finished : (rows : List Row) (m : Meter) (c : Call) → soundMeter rows m ≡ true
+    → (s : Step) (g₀ g : Logs) → s ≡ stepOf (scalarsOf m) (result rows (scalarsOf m) c) → g₀ ≡ zeroedArrays (s .cleared) (m .logs)
+    → g ≡ extendedArrays (s .log) (take (s .count) (s .clocks)) (take (s .count) (s .codes)) g₀
+    → outcomeOf (record { scalars = s .scalars; answer = s .answer }) (g .counts) (g .clocks) (g .codes) ≡ appliedInParts rows m c
+unfolding appliedInParts
+finished rows m c e s g₀ g steps clears adds = rw (adds, clears, steps, e) (go (result rows (scalarsOf m) c))
+  where
+    go : (r : Result) → leftBy m (stepOf (scalarsOf m) r) ≡ leftIn m r
+    go (refusing n) = nothing-owed m n
+    go (making k) = rw (first-lines clockOf (k .lines), first-lines codeOf (k .lines))
+
+-- ---- of arrays of their types' lengths
+module _ (rows : List Row) (m : Meter) where
+  pub in-parts : (c : Call) → Sized (m .logs) → appliedInParts rows m c ≡ applied rows m c
+  unfolding appliedInParts applied soundMeter
+  in-parts c z = go (soundMeter rows m) refl
+    where
+      same : (r : Result) → soundLogs rows (m .logs) ≡ true → leftIn m r ≡ carriedOut m r
+      same (refusing n) e = refl
+      same (making k) e = rw (logs-after rows (m .logs) z e k)
+
+      go : (b : Bool) → soundMeter rows m ≡ b
+          → cond b (leftIn m (result rows (scalarsOf m) c)) (record { meter = m; answer = Refused 12 })
+          ≡ cond b (carriedOut m (result rows (scalarsOf m) c)) (record { meter = m; answer = Refused 12 })
+      go true e = same (result rows (scalarsOf m) c) (and-right (soundScalars (scalarsOf m)) (soundLogs rows (m .logs)) e)
+      go false e = refl
+
+  performed-in-parts : (p : Parsed) → Sized (m .logs) → performedInParts rows m p ≡ performed rows m p
+  performed-in-parts (Ok c) z = in-parts c z
+  performed-in-parts NoKind z = refl
+
+  pub command-in-parts : (k n1 n2 n3 n4 n5 : ℕ) → Sized (m .logs) → commandedInParts rows m k n1 n2 n3 n4 n5 ≡ commanded rows m k n1 n2 n3 n4 n5
+  unfolding commandedInParts commanded
+  command-in-parts k n1 n2 n3 n4 n5 z = performed-in-parts (callOf k n1 n2 n3 n4 n5) z
 
 -- ---- the parts of the two arrays, as long as the count says
-pub lines-room : (s : Step) (r : Result) → s ≡ stepOf r → (s .count ≤ length (s .clocks)) × (s .count ≤ length (s .codes))
-lines-room s r e = rw e (in-two clockOf (r .lines), in-two codeOf (r .lines))
+pub lines-room : (s : Step) (t : Scalars) (r : Result) → s ≡ stepOf t r → (s .count ≤ length (s .clocks)) × (s .count ≤ length (s .codes))
+lines-room s t (refusing n) e = rw e (omega arith, omega arith)
+lines-room s t (making k) e = rw e (in-two clockOf (k .lines), in-two codeOf (k .lines))
 
 pub part-length : (n : ℕ) (xs : List ℕ) → n ≤ length xs → n ≡ length (take n xs)
 part-length n xs h = sym (length-take-le n xs h)

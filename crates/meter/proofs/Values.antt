@@ -1,4 +1,4 @@
--- Records and values: of what is sound, each is read off the other; a call on a laid-out record is the machine's on its values.
+-- Records and values: of what is sound, each is read off the other.
 -- Assumes nothing.
 use mathlib.Core.Path.{_≡_, refl, ap, _∙_}
 use mathlib.Core.Bool.{true}
@@ -16,12 +16,9 @@ use Rattle.logs.proofs.Laid.{map-short}
 use Rattle.logs.proofs.Read.{laid-lists}
 use Rattle.logs.proofs.Inverse.{lists-laid, laid-sound, lists-sound}
 use Rattle.logs.proofs.Kept.{lists-length, lists-short}
-use Rattle.calls.specs.declared.Call.{Call}
 use Rattle.meter.specs.declared.Meter.{Meter}
-use Rattle.meter.specs.declared.Outcome.{Outcome}
 use Rattle.meter.specs.State.{State, stateOf, scalarsOf, recordOf}
 use Rattle.meter.specs.Sound.{soundScalars, soundMeter, soundState}
-use Rattle.meter.specs.Machine.{result, after, applied}
 
 -- ---- the arrays that hold three logs have their types' lengths
 length-flat : {xss : List (List ℕ)} → Short xss → length (flat xss) ≡ 32 * length xss
@@ -90,10 +87,3 @@ module _ (rows : List Row) (v : State) (e : soundState rows v ≡ true) where
 
   pub record-sized : Sized (recordOf v .logs)
   record-sized = laid-sized (v .logs) (lists-length rows (v .logs) logs-sound) short
-
-  -- the machine on the laid-out record
-  pub applied-state : (c : Call) → applied rows (recordOf v) c ≡ record { meter = recordOf (after v (result rows (v .scalars) c)); answer = result rows (v .scalars) c .answer }
-  unfolding applied
-  applied-state c =
-      rw record-sound
-      (ap {B = Outcome} (λ w. record { meter = recordOf (after w (result rows (v .scalars) c)); answer = result rows (v .scalars) c .answer }) state-of-record)

@@ -1,13 +1,13 @@
 -- 'Fresh takes mode, threshold, Over, Under, clock: switch 1, not Exceeded, all else zero or empty.'
 use mathlib.Core.Path.{_≡_}
-use mathlib.Core.Bool.{true, false, _&&_, cond}
+use mathlib.Core.Bool.{true, false}
 use mathlib.Core.List.{List, [], _∷_}
 use Prim.Native.Nat.{ℕ}
 use lib.Dec.{leb}
-use lib.IntN.{ℤ, pos}
-use lib.Signed.{leZ}
+use lib.IntN.{pos}
 use Rattle.limiter.specs.Limiter.{isThreshold, isDuration}
 use Rattle.calls.specs.declared.Call.{Call}
+use Rattle.calls.specs.declared.Answer.{Answer}
 use Rattle.calls.specs.declared.Answer.the-variants.{Accepted, Refused}
 use Rattle.calls.specs.Calls.{Word, Signed}
 use Rattle.events.specs.Table.{Row}
@@ -16,6 +16,7 @@ use Rattle.history.specs.Account.{Account}
 use Rattle.meter.specs.declared.Meter.{Meter}
 use Rattle.meter.specs.declared.Outcome.{Outcome}
 use Rattle.meter.specs.State.{State, recordOf}
+use Rattle.meter.specs.Settings.{settingsOf, freshAnswer}
 use Rattle.meter.specs.Machine.{applied}
 
 -- 'switch 1, not Exceeded, all else zero or empty'
@@ -43,10 +44,6 @@ pub record Settings (f : Fresh) : Type 0 where
   pub under : isDuration (f .under) ≡ true
   pub clock : Word (f .clock)
 
--- 'Fresh takes mode, threshold, Over, Under, clock'
-abbrev pub settingsOf : ℕ → ℤ → ℕ → ℕ → ℕ → Fresh
-settingsOf m t o u k = record { mode = m; threshold = t; over = o; under = u; clock = k }
-
 -- 'mode 0, threshold 0, durations 1, clock 0'
 abbrev pub leastSettings : Fresh
 leastSettings = settingsOf 0 (pos 0) 1 1 0
@@ -55,20 +52,14 @@ leastSettings = settingsOf 0 (pos 0) 1 1 0
 abbrev pub refusedOutcome : ℕ → Outcome
 refusedOutcome n = record { meter = recordOf (freshState leastSettings); answer = Refused n }
 
--- fresh, by the order of 'Where a call stops': '1 | mode above 6', '4 | threshold negative', '5 | Over or Under out of range'
-unfoldable pub freshOutcome : ℕ → ℤ → ℕ → ℕ → ℕ → Outcome
-freshOutcome m t o u k =
-    cond (leb m 6)
-    (cond (leZ (pos 0) t)
-    (cond (isDuration o && isDuration u)
-    (record { meter = recordOf (freshState (settingsOf m t o u k)); answer = Accepted })
-    (refusedOutcome 5))
-    (refusedOutcome 4))
-    (refusedOutcome 1)
+-- the settings of the meter that fresh hands back
+abbrev pub settingsBy : Answer → Fresh → Fresh
+settingsBy Accepted f = f
+settingsBy (Refused n) f = leastSettings
 
--- the same of settings as one record
+-- fresh: the meter of its settings, or a refusal's
 abbrev pub freshOf : Fresh → Outcome
-freshOf f = freshOutcome (f .mode) (f .threshold) (f .over) (f .under) (f .clock)
+freshOf f = record { meter = recordOf (freshState (settingsBy (freshAnswer f) f)); answer = freshAnswer f }
 
 -- the numbers that fresh judges or takes as they are, as values of their types
 pub record SettingsInRange (f : Fresh) : Type 0 where

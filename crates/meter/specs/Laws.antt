@@ -16,6 +16,7 @@ use Rattle.meter.specs.declared.Meter.{Meter}
 use Rattle.meter.specs.State.{State, stateOf, recordOf}
 use Rattle.meter.specs.Sound.{soundMeter, soundState}
 use Rattle.meter.specs.Machine.{applied, commanded}
+use Rattle.meter.specs.Parts.{appliedInParts, commandedInParts}
 use Rattle.meter.specs.Fresh.{Settings, holding, recordAfter}
 
 -- the answer that the account's rule of refusals gives
@@ -35,13 +36,17 @@ pub record Laws (rows : List Row) : Type 0 where
   -- every call keeps a sound record sound
   pub kept-sound : (m : Meter) (c : Call) → Sized (m .logs) → InRange c → soundMeter rows m ≡ true
       → soundMeter rows (applied rows m c .meter) ≡ true
+  -- of arrays of their types' lengths, a call on a record in parts is a call on the record
+  pub in-parts : (m : Meter) (c : Call) → Sized (m .logs) → appliedInParts rows m c ≡ applied rows m c
+  pub command-in-parts : (m : Meter) (k n1 n2 n3 n4 n5 : ℕ) → Sized (m .logs)
+      → commandedInParts rows m k n1 n2 n3 n4 n5 ≡ commanded rows m k n1 n2 n3 n4 n5
   -- for a sound record the answer is the one that the account's rule gives: each number comes under its condition only
   pub answers : (m : Meter) (c : Call) → soundMeter rows m ≡ true
       → applied rows m c .answer ≡ answerOf (reading rows (m .control .mode) c)
   -- on any refusal the record is the one that came in, of a call and of a command
-  pub refused-same : (m : Meter) (c : Call) (n : ℕ) → Sized (m .logs) → applied rows m c .answer ≡ Refused n
+  pub refused-same : (m : Meter) (c : Call) (n : ℕ) → applied rows m c .answer ≡ Refused n
       → applied rows m c .meter ≡ m
-  pub command-refused-same : (m : Meter) (k n1 n2 n3 n4 n5 n : ℕ) → Sized (m .logs)
+  pub command-refused-same : (m : Meter) (k n1 n2 n3 n4 n5 n : ℕ)
       → commanded rows m k n1 n2 n3 n4 n5 .answer ≡ Refused n → commanded rows m k n1 n2 n3 n4 n5 .meter ≡ m
   -- after any list of calls from accepted fresh settings, refused calls among them, the record is sound: 12 never comes
   pub reached-sound : (f : Fresh) (calls : List Call) → Settings f → AllInRange calls → soundMeter rows (lastRecord rows f calls) ≡ true

@@ -1,7 +1,8 @@
 // The fresh meter: the record that the first call of a history gets.
 ghost use mathlib.Core.Path.{_≡_};
 ghost use Rattle.meter.specs.State.{recordOf};
-ghost use Rattle.meter.specs.Fresh.{settingsOf, freshState, refusedOutcome, freshOutcome};
+ghost use Rattle.meter.specs.Fresh.{freshState, refusedOutcome, freshOf};
+ghost use Rattle.meter.specs.Settings.{settingsOf};
 use crate::Meter;
 use crate::Outcome;
 use calls::Answer;
@@ -57,7 +58,7 @@ impl Meter {
     // above 6, judged at its full width; 4 if the threshold is negative, 5 if a duration is not 1 to
     // 86,400.
     pub fn fresh(mode: u32, threshold: i32, over: u32, under: u32, clock: u32) -> Outcome
-        ensures { λ r. ⌜ r ≡ freshOutcome mode threshold over under clock ⌝ }
+        ensures { λ r. ⌜ r ≡ freshOf (settingsOf mode threshold over under clock) ⌝ }
     {
         if 6 < mode {
             return Outcome::refused(1);

@@ -3,13 +3,14 @@ ghost use mathlib.Core.Path.{_≡_};
 ghost use mathlib.Core.List.{[]};
 ghost use Rattle.registers.specs.Register.{withFilter};
 ghost use Rattle.meter.specs.State.{withAlarms, withErrors};
-ghost use Rattle.meter.specs.Machine.{owing, limiterResult, clockResult, stepOf};
+ghost use Rattle.meter.specs.Machine.{owing, limiterResult, clockResult};
+ghost use Rattle.meter.specs.Parts.{stepFor, stepOf};
 use crate::Scalars;
 use crate::Step;
 
 impl Scalars {
     pub(crate) fn set_limiter(mut self, threshold: i32, over: u32, under: u32) -> Step
-        ensures { λ r. ⌜ r ≡ stepOf (limiterResult self threshold over under) ⌝ }
+        ensures { λ r. ⌜ r ≡ stepOf self (limiterResult self threshold over under) ⌝ }
     {
         if threshold < 0 {
             return self.refused(4);
@@ -24,7 +25,7 @@ impl Scalars {
     // A line with the clock before and one with the clock after; a clock that is set is valid again,
     // so that error bit 0 goes.
     pub(crate) fn set_clock(mut self, clock: u32) -> Step
-        ensures { λ r. ⌜ r ≡ stepOf (clockResult self clock) ⌝ }
+        ensures { λ r. ⌜ r ≡ stepFor (clockResult self clock) ⌝ }
     {
         let before = self.clock;
         self.clock = clock;
@@ -33,14 +34,14 @@ impl Scalars {
     }
 
     pub(crate) fn set_alarm_filter(mut self, filter: u32) -> Step
-        ensures { λ r. ⌜ r ≡ stepOf (owing (withAlarms self (withFilter (self .alarms) filter)) 0 []) ⌝ }
+        ensures { λ r. ⌜ r ≡ stepFor (owing (withAlarms self (withFilter (self .alarms) filter)) 0 []) ⌝ }
     {
         self.alarms = self.alarms.set_filter(filter);
         self.accepted(0)
     }
 
     pub(crate) fn set_error_filter(mut self, filter: u32) -> Step
-        ensures { λ r. ⌜ r ≡ stepOf (owing (withErrors self (withFilter (self .errors) filter)) 0 []) ⌝ }
+        ensures { λ r. ⌜ r ≡ stepFor (owing (withErrors self (withFilter (self .errors) filter)) 0 []) ⌝ }
     {
         self.errors = self.errors.set_filter(filter);
         self.accepted(0)

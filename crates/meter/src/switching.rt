@@ -4,7 +4,8 @@ ghost use mathlib.Core.Path.{_≡_};
 ghost use mathlib.Core.List.{[], _∷_};
 ghost use Rattle.control.specs.Control.{movedTo};
 ghost use Rattle.meter.specs.State.{withControl};
-ghost use Rattle.meter.specs.Machine.{lineNow, moving, decided, requestResult, sampleResult, modeResult, scriptResult, stepOf};
+ghost use Rattle.meter.specs.Machine.{lineNow, moving, decided, requestResult, sampleResult, modeResult, scriptResult};
+ghost use Rattle.meter.specs.Parts.{stepFor, stepOf};
 use crate::Scalars;
 use crate::Step;
 use control::Decision;
@@ -28,7 +29,7 @@ impl Scalars {
 
     // A decision carried out.
     fn switched(self, decision: Decision) -> Step
-        ensures { λ r. ⌜ r ≡ stepOf (moving self [] decision) ⌝ }
+        ensures { λ r. ⌜ r ≡ stepFor (moving self [] decision) ⌝ }
     {
         match decision {
             Decision::Move { to, code, opens } => self.moved(to, opens).logged(3, code),
@@ -39,7 +40,7 @@ impl Scalars {
 
     // A request from outside: a mode that is not listed for it is a refusal.
     pub(crate) fn request(self, request: Request) -> Step
-        ensures { λ r. ⌜ r ≡ stepOf (requestResult self request) ⌝ }
+        ensures { λ r. ⌜ r ≡ stepOf self (requestResult self request) ⌝ }
     {
         let decision = self.decide(request);
         match decision {
@@ -50,7 +51,7 @@ impl Scalars {
 
     // A script names a request.
     pub(crate) fn script(self, number: u32) -> Step
-        ensures { λ r. ⌜ r ≡ stepOf (scriptResult self number) ⌝ }
+        ensures { λ r. ⌜ r ≡ stepOf self (scriptResult self number) ⌝ }
     {
         match number {
             1 => self.request(Request::RemoteDisconnect),
@@ -61,7 +62,7 @@ impl Scalars {
 
     // The mode is judged at its full width, then cut to the byte that the record has for it.
     pub(crate) fn set_mode(mut self, mode: u32) -> Step
-        ensures { λ r. ⌜ r ≡ stepOf (modeResult self mode) ⌝ }
+        ensures { λ r. ⌜ r ≡ stepOf self (modeResult self mode) ⌝ }
     {
         if 6 < mode {
             return self.refused(1);
@@ -74,7 +75,7 @@ impl Scalars {
     // The limiter's firing: its own line, then the request that it makes. A mode that is not listed
     // for the request is no refusal here: nothing is tried.
     fn fired(self, code: u8, request: Request) -> Step
-        ensures { λ r. ⌜ r ≡ stepOf (moving self (lineNow self code ∷ []) (decided self request)) ⌝ }
+        ensures { λ r. ⌜ r ≡ stepFor (moving self (lineNow self code ∷ []) (decided self request)) ⌝ }
     {
         let decision = self.decide(request);
         match decision {
@@ -90,7 +91,7 @@ impl Scalars {
 
     // The clock goes on before anything is logged: a line bears the clock after the sample.
     pub(crate) fn sample(mut self, power: i32) -> Step
-        ensures { λ r. ⌜ r ≡ stepOf (sampleResult self power) ⌝ }
+        ensures { λ r. ⌜ r ≡ stepFor (sampleResult self power) ⌝ }
     {
         let watched = self.limiter.sample(power);
         let limiter = watched.limiter;

@@ -5,10 +5,11 @@ use mathlib.Core.Bool.{true}
 use mathlib.Core.List.{List, [], _∷_, reverse, reverseAux}
 use Prim.Native.Nat.{ℕ, _≤_}
 use native.Mathlib.Omega.{arith}
-use lib.ListN.{length, replicate}
+use lib.ListN.{length, take, replicate}
 use borrow.Author.Tests.{le-leb}
 use Rattle.events.specs.Table.{builtIn}
 use Rattle.calls.specs.declared.Call.{Call}
+use Rattle.calls.specs.declared.Answer.{Answer}
 use Rattle.calls.specs.declared.Answer.the-variants.{Accepted}
 use Rattle.history.specs.Effects.{Fresh}
 use Rattle.history.specs.Account.{Account}
@@ -21,13 +22,15 @@ use Rattle.meter.proofs.Laws.{built-in, turned}
 use Rattle.meter.proofs.Values.{record-sound}
 use Rattle.meter.proofs.Simulates.{named-sound}
 use Rattle.events.proofs.Rule.{built-in-lawful}
-use Rattle.page.specs.Layout.{size, pageOf, writeAnswer}
+use Rattle.page.specs.Layout.{size, pageOf, writeAnswer, written, accepted, readOf}
 use Rattle.page.specs.Laws.{Typed}
 use Rattle.page.specs.Examples.{worked, unused, Examples}
 use Rattle.page.proofs.Example.{worked-page, distinct-page}
-use Rattle.page.specs.Demand3.{Trace, recordFrom, lastRecord, pageAfter, accountOf, accountPage, Demand3}
+use Rattle.page.specs.AccountPage.{accountPage}
+use Rattle.page.specs.Demand3.{Trace, recordFrom, lastRecord, pageAfter, accountOf, Demand3}
 use Rattle.page.proofs.RoundTrip.{laws}
 use Rattle.page.proofs.Ranges.{account-typed}
+use Rattle.page.proofs.Printed.{list-written}
 
 -- the calls in their order, on the record that those before left
 pub record-from : (f : Fresh) (before calls : List Call) → recordFrom (recordAfter builtIn f before) calls ≡ recordAfter builtIn f (reverseAux calls before)
@@ -77,6 +80,10 @@ module _ (t : Trace) where
   record-is-sound : soundMeter builtIn (recordOf (holding (accountOf t))) ≡ true
   record-is-sound = record-sound builtIn (holding (accountOf t)) values-sound
 
+  -- and its page is the one that document 01 prints of the account
+  printed : accountPage (accountOf t) ≡ pageOf (recordOf (holding (accountOf t)))
+  printed = list-written (t .settings) (t .calls) settings (t .calls-in-range)
+
   last-sound : soundMeter builtIn (lastRecord t) ≡ true
   last-sound = rw last-record record-is-sound
 
@@ -86,12 +93,12 @@ module _ (t : Trace) where
     page-accepted = rw (last-sound, le-leb size (length out) room)
 
     page-held : pageAfter t out ≡ accountPage (accountOf t)
-    page-held = laws .accepted-page (lastRecord t) out page-accepted ∙ ap pageOf last-record
+    page-held = laws .accepted-page (lastRecord t) out page-accepted ∙ ap pageOf last-record ∙ sym printed
 
 -- two accounts with one page are one account
 pub same-account : (s t : Trace) → accountPage (accountOf s) ≡ accountPage (accountOf t) → accountOf s ≡ accountOf t
 same-account s t e =
-    let records = laws .injective (recordOf (holding (accountOf s))) (recordOf (holding (accountOf t))) (typed s) (typed t) (record-is-sound s) (record-is-sound t) e in
+    let records = laws .injective (recordOf (holding (accountOf s))) (recordOf (holding (accountOf t))) (typed s) (typed t) (record-is-sound s) (record-is-sound t) (sym (printed s) ∙ e ∙ printed t) in
     let values : holding (accountOf s) ≡ holding (accountOf t) =
     sym (built-in .state-of-record (holding (accountOf s)) (values-sound s)) ∙ ap stateOf records ∙ built-in .state-of-record (holding (accountOf t)) (values-sound t) in
     ap named values
@@ -117,3 +124,8 @@ examples =
       distinct-page = distinct-page;
       compared = demand-3 worked unused (replicate size 255) (replicate 600 0) (omega arith) (omega arith);
     }
+
+-- what the writer promises, by what it answers and leaves
+pub writer-promises : (m : Meter) (out : List ℕ) (a : Answer) (left : List ℕ) → Typed m → (a ≡ writeAnswer m out) × (left ≡ written m out)
+    → ((a ≡ writeAnswer m out) × (left ≡ written m out)) × ((a ≡ Accepted → readOf (take size left) ≡ accepted m) × Demand3)
+writer-promises m out a left t e = (e, (λ h. rw (e .1) (laws .read-written m out t (sym (e .0) ∙ h)), demand-3))

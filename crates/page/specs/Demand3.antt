@@ -11,10 +11,10 @@ use Rattle.calls.specs.Calls.{AllInRange}
 use Rattle.history.specs.Effects.{Fresh}
 use Rattle.history.specs.Account.{Account, account}
 use Rattle.meter.specs.declared.Meter.{Meter}
-use Rattle.meter.specs.State.{recordOf}
 use Rattle.meter.specs.Machine.{applied}
-use Rattle.meter.specs.Fresh.{freshOf, SettingsInRange, holding}
-use Rattle.page.specs.Layout.{size, pageOf, writeAnswer, written}
+use Rattle.meter.specs.Fresh.{freshOf, SettingsInRange}
+use Rattle.page.specs.Layout.{writeAnswer, written}
+use Rattle.page.specs.AccountPage.{pageLength, accountPage}
 
 -- 'any two fresh meters, each with its own accepted settings', and a list of calls from each: the numbers are values of their types
 pub record Trace : Type 0 where
@@ -35,15 +35,11 @@ lastRecord t = recordFrom (freshOf (t .settings) .meter) (t .calls)
 
 -- 'A list's page is what an accepted writer, given the last record .., puts into the buffer over the page's length.'
 abbrev pub pageAfter : Trace → List ℕ → List ℕ
-pageAfter t out = take size (written (lastRecord t) out)
+pageAfter t out = take pageLength (written (lastRecord t) out)
 
 -- 'The account comes from the fresh settings and the list alone'
 abbrev pub accountOf : Trace → Account
 accountOf t = account builtIn (t .settings) (t .calls)
-
--- 'The account's values, put in the page's layout behind its fixed pairs, with zero where the account has nothing to put ..'
-abbrev pub accountPage : Account → List ℕ
-accountPage a = pageOf (recordOf (holding a))
 
 -- what is claimed of two traces and the two buffers that their pages are written into
 pub record Compared (s t : Trace) (out out′ : List ℕ) : Type 0 where
@@ -59,4 +55,4 @@ pub record Compared (s t : Trace) (out out′ : List ℕ) : Type 0 where
 
 -- 'a single claim about two whole lists'; the buffers are long enough for a page
 abbrev pub Demand3 : Type 0
-Demand3 = (s t : Trace) (out out′ : List ℕ) → size ≤ length out → size ≤ length out′ → Compared s t out out′
+Demand3 = (s t : Trace) (out out′ : List ℕ) → pageLength ≤ length out → pageLength ≤ length out′ → Compared s t out out′

@@ -10,13 +10,15 @@ use Rattle.events.specs.Line.{line}
 use Rattle.calls.specs.declared.Answer.the-variants.{Accepted}
 use Rattle.history.specs.Account.{Account}
 use Rattle.history.specs.Examples.{bench, benchCalls}
-use Rattle.meter.specs.Fresh.{freshOutcome, freshOf, SettingsInRange}
+use Rattle.meter.specs.Settings.{freshAnswer}
+use Rattle.meter.specs.Fresh.{freshOf, SettingsInRange}
 use Rattle.page.specs.Layout.{size}
-use Rattle.page.specs.Demand3.{Trace, accountOf, accountPage, Compared}
+use Rattle.page.specs.AccountPage.{accountPage}
+use Rattle.page.specs.Demand3.{Trace, accountOf, Compared}
 
 -- fresh accepts (5, 3000, 2, 3, 1000)
 pub bench-accepted : freshOf bench .answer ≡ Accepted
-unfolding freshOutcome
+unfolding freshAnswer
 bench-accepted = refl
 
 -- its numbers are values of their types

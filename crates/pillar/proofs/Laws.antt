@@ -33,9 +33,10 @@ use Rattle.meter.proofs.Preserved.{run-sound}
 use Rattle.meter.proofs.Simulates.{simulates}
 use Rattle.page.specs.Layout.{layout, start, size, pageOf, writeAnswer, written, accepted, hasPairs, meterIn, holdsSound, readOf}
 use Rattle.page.specs.Laws.{Typed}
-use Rattle.page.specs.Demand3.{accountPage}
+use Rattle.page.specs.AccountPage.{accountPage}
 use Rattle.page.proofs.RoundTrip as roundtrip
 use Rattle.page.proofs.Ranges.{account-typed}
+use Rattle.page.proofs.Printed.{list-written}
 use Rattle.replay.specs.declared.Record.{Record}
 use Rattle.replay.specs.Replay.{parsedIn, withCall, callsIn, nextOf}
 use Rattle.pillar.specs.Interface.{unlessRefused, unlessRefusedBytes, keptAnswer, keptPage, outcomeOn, callAnswer, callPage}
@@ -133,7 +134,7 @@ module _ {page : List ℕ} {m : Meter} (k : Read page m) (r : Record) (i : AllIn
 
       go : (a : Answer) → o .answer ≡ a → keptPage o page ≡ pageOf (o .meter)
       go Accepted e = kept-written o page whole e next-sound
-      go (Refused n) e = sym (kept-refused o page n e .1) ∙ sym (k .back) ∙ ap pageOf (sym (meter.built-in .command-refused-same m (r .kind) (r .n1) (r .n2) (r .n3) (r .n4) (r .n5) n (k .sized) e))
+      go (Refused n) e = sym (kept-refused o page n e .1) ∙ sym (k .back) ∙ ap pageOf (sym (meter.built-in .command-refused-same m (r .kind) (r .n1) (r .n2) (r .n3) (r .n4) (r .n5) n e))
 
 -- an accepted page: the record is the one in its bytes
 accepted-in : (s : List ℕ) → readOf s .answer ≡ Accepted → (readOf s .meter ≡ meterIn s) × (layout .valid s start ≡ true)
@@ -211,6 +212,7 @@ account-page page f rs whole e range i =
     ap (λ (page : List ℕ). callPages page rs) first
     ∙ pages-from f t rs [] i tt
     ∙ ap pageOf (meter.built-in .simulates f (callsIn rs) t i)
+    ∙ sym (list-written f (callsIn rs) t i)
 
 pub laws : Laws
 unfolding callsIn

@@ -10,7 +10,8 @@ use Rattle.calls.specs.Calls.{answerNumber}
 use Rattle.meter.specs.declared.Meter.{Meter}
 use Rattle.meter.specs.declared.Outcome.{Outcome}
 use Rattle.meter.specs.Machine.{commanded}
-use Rattle.meter.specs.Fresh.{freshOutcome}
+use Rattle.meter.specs.Settings.{settingsOf}
+use Rattle.meter.specs.Fresh.{freshOf}
 use Rattle.page.specs.Layout.{writeAnswer, written, readOf}
 use Rattle.replay.specs.declared.Replayed.{Replayed}
 use Rattle.replay.specs.declared.Replayed.the-variants.{Written, Empty, Bad, Short, Refused}
@@ -35,11 +36,11 @@ keptPage o page = unlessRefusedBytes (o .answer) (written (o .meter) page) page
 
 -- 'Fresh takes mode, threshold, Over, Under, clock': 1, 4, 5, then the writer's
 abbrev pub freshAnswer : List ℕ → ℕ → ℤ → ℕ → ℕ → ℕ → ℕ
-freshAnswer page mode threshold over under clock = keptAnswer (freshOutcome mode threshold over under clock) page
+freshAnswer page mode threshold over under clock = keptAnswer (freshOf (settingsOf mode threshold over under clock)) page
 
 -- the bytes afterwards: the fresh meter's page over the page's length, or as they were on a refusal
 abbrev pub freshPage : List ℕ → ℕ → ℤ → ℕ → ℕ → ℕ → List ℕ
-freshPage page mode threshold over under clock = keptPage (freshOutcome mode threshold over under clock) page
+freshPage page mode threshold over under clock = keptPage (freshOf (settingsOf mode threshold over under clock)) page
 
 -- a kind and five numbers as a command on the record of a page
 abbrev pub outcomeOn : Meter → ℕ → ℕ → ℕ → ℕ → ℕ → ℕ → Outcome

@@ -13,7 +13,7 @@ use Rattle.history.specs.Effects.{Fresh}
 use Rattle.history.specs.Account.{account}
 use Rattle.meter.specs.Fresh.{freshOf, SettingsInRange}
 use Rattle.page.specs.Layout.{size, pageOf, readOf}
-use Rattle.page.specs.Demand3.{accountPage}
+use Rattle.page.specs.AccountPage.{accountPage}
 use Rattle.replay.specs.declared.Record.{Record}
 use Rattle.replay.specs.Replay.{callsIn, nextOf}
 use Rattle.pillar.specs.Interface.{unlessRefused, freshAnswer, freshPage, callAnswer, callPage}

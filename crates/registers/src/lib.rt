@@ -1,6 +1,7 @@
 // The alarm and the error register: 32 bits each, with the filter that hides bits from being set.
 ghost use mathlib.Core.Path.{_≡_};
 ghost use Rattle.registers.specs.Register.{raised, cleared, withFilter};
+ghost use Rattle.registers.specs.Laws.{Laws};
 
 pub struct Register {
     pub bits: u32,
@@ -12,6 +13,7 @@ impl Register {
     // the register is read.
     pub fn raise(mut self, mask: u32) -> Register
         ensures { λ r. ⌜ r ≡ raised self mask ⌝ }
+        ensures laws { λ _. ⌜ Laws self mask ⌝ }
     {
         self.bits = self.bits | (mask & !self.filter);
         self

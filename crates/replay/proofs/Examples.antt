@@ -3,13 +3,13 @@
 use mathlib.Core.Path.{refl}
 use Rattle.codec.specs.Format.{be, numAt}
 use Rattle.calls.specs.Calls.{callOf}
-use Rattle.meter.specs.Fresh.{freshOutcome}
+use Rattle.meter.specs.Settings.{freshAnswer}
 use Rattle.replay.specs.Replay.{callsIn, replayAnswer}
 use Rattle.replay.specs.Listing.{digits, decimal, field, lineBytes}
 use Rattle.replay.specs.Examples.{Examples}
 
 pub examples : Examples
-unfolding callsIn callOf decimal digits field lineBytes replayAnswer be numAt freshOutcome
+unfolding callsIn callOf decimal digits field lineBytes replayAnswer be numAt freshAnswer
 examples =
     record {
       settings = refl;

@@ -14,7 +14,8 @@ use Rattle.calls.specs.declared.Answer.the-variants as answer
 use Rattle.meter.specs.State.{recordOf}
 use Rattle.meter.specs.Fresh.{holding}
 use Rattle.page.specs.Layout.{size}
-use Rattle.page.specs.Demand3.{Trace, accountPage}
+use Rattle.page.specs.AccountPage.{accountPage}
+use Rattle.page.specs.Demand3.{Trace}
 use Rattle.page.proofs.RoundTrip.{page-length}
 use Rattle.page.proofs.Traces as traces
 use Rattle.replay.specs.declared.Replayed.{Replayed}
@@ -23,7 +24,7 @@ use Rattle.replay.specs.Replay.{recordLength, firstIn, laterIn, settings
 use Rattle.replay.specs.Laws.{pageIn, Compared}
 use Rattle.replay.proofs.Records.{record-lawful}
 use Rattle.replay.proofs.Ranges.{settings-range}
-use Rattle.replay.proofs.Runs.{in-range}
+use Rattle.replay.proofs.Runs.{in-range, printed}
 
 -- an input that is taken begins with an accepted fresh
 started : (empty short fresh : Bool) (a : Answer) (end : Replayed) → cond empty Empty (cond short Short (cond fresh (unlessRefused a end) Bad)) ≡ Written → a ≡ answer.Accepted
@@ -50,7 +51,7 @@ module _ (s out : List ℕ) (bytes : Bytes s) (e : replayAnswer s out ≡ Writte
 
   page : pageIn s out ≡ accountPage (accountIn s)
   unfolding replayed
-  page = rw e (take-at (accountPage (accountIn s)) (drop size out) size (page-length (recordOf (holding (accountIn s)))))
+  page = rw e (take-at (accountPage (accountIn s)) (drop size out) size (ap length (printed s bytes accepted) ∙ page-length (recordOf (holding (accountIn s)))))
 
 pub compared : (s t out out′ : List ℕ) → Bytes s → Bytes t → replayAnswer s out ≡ Written → replayAnswer t out′ ≡ Written → Compared s t out out′
 unfolding trace accountIn

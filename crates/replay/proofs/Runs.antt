@@ -30,8 +30,9 @@ use Rattle.meter.specs.Laws.{lastRecord}
 use Rattle.meter.proofs.Preserved.{applied-sized}
 use Rattle.meter.proofs.Accepting.{fresh-laws}
 use Rattle.meter.proofs.Laws.{built-in}
-use Rattle.page.specs.Layout.{size, writeAnswer, written}
-use Rattle.page.specs.Demand3.{accountPage}
+use Rattle.page.specs.Layout.{size, pageOf, writeAnswer, written}
+use Rattle.page.specs.AccountPage.{accountPage}
+use Rattle.page.proofs.Printed.{list-written}
 use Rattle.replay.specs.declared.Record.{Record}
 use Rattle.replay.specs.declared.Replayed.{Replayed}
 use Rattle.replay.specs.declared.Replayed.the-variants.{Written, Refused}
@@ -117,6 +118,11 @@ module _ (s : List ℕ) (bytes : Bytes s) (started : startOf (firstIn s) .answer
   unfolding accountIn
   holds-account = by-calls ∙ built-in .simulates (settingsIn (firstIn s)) (callsIn (laterIn s)) settings in-range
 
+  -- its page is the one that document 01 prints of the account
+  pub printed : accountPage (accountIn s) ≡ pageOf (recordOf (holding (accountIn s)))
+  unfolding accountIn
+  printed = list-written (settingsIn (firstIn s)) (callsIn (laterIn s)) settings in-range
+
   last-sound : soundMeter builtIn (lastMeter s) ≡ true
   last-sound =
       ap (soundMeter builtIn) by-calls ∙ built-in .reached-sound (settingsIn (firstIn s)) (callsIn (laterIn s)) settings in-range
@@ -134,7 +140,7 @@ module _ (s : List ℕ) (bytes : Bytes s) (started : startOf (firstIn s) .answer
 
     writer-page : written (lastMeter s) out ≡ bufferAfter (endOf s out) (accountPage (accountIn s)) out
     unfolding written
-    writer-page = rw (last-sound, whole, holds-account) (go (leb size (length out)) (accountPage (accountIn s)))
+    writer-page = rw (last-sound, whole, holds-account, ← printed) (go (leb size (length out)) (accountPage (accountIn s)))
       where
         go : (b : Bool) (page : List ℕ) → cond b (page ++ drop size out) out ≡ bufferAfter (cond b Written (Refused 8)) page out
         go true page = refl

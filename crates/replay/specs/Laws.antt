@@ -8,8 +8,7 @@ use Rattle.codec.specs.Lawful.{Bytes, Lawful}
 use Rattle.calls.specs.declared.Answer.the-variants.{Accepted}
 use Rattle.meter.specs.State.{recordOf}
 use Rattle.meter.specs.Fresh.{holding}
-use Rattle.page.specs.Layout.{size}
-use Rattle.page.specs.Demand3.{accountPage}
+use Rattle.page.specs.AccountPage.{pageLength, accountPage}
 use Rattle.replay.specs.declared.Record.{Record}
 use Rattle.replay.specs.declared.Replayed.the-variants.{Written}
 use Rattle.replay.specs.Input.{recordFormat}
@@ -18,7 +17,7 @@ use Rattle.replay.specs.Listing.{digit, decimal, valueBehind, lineBytes,
 
 -- the page that `replay` leaves in the buffer
 abbrev pub pageIn : List ℕ → List ℕ → List ℕ
-pageIn s out = take size (replayed s out)
+pageIn s out = take pageLength (replayed s out)
 
 -- demand 3 of two inputs that `replay` took, each with its buffer
 pub record Compared (s t out out′ : List ℕ) : Type 0 where

@@ -17,9 +17,9 @@ use Rattle.history.specs.Account.{Account, account}
 use Rattle.meter.specs.declared.Meter.{Meter}
 use Rattle.meter.specs.declared.Outcome.{Outcome}
 use Rattle.meter.specs.Machine.{commanded}
-use Rattle.meter.specs.Fresh.{settingsOf, freshOf}
-use Rattle.page.specs.Layout.{size}
-use Rattle.page.specs.Demand3.{accountPage}
+use Rattle.meter.specs.Settings.{settingsOf, freshAnswer}
+use Rattle.meter.specs.Fresh.{freshOf}
+use Rattle.page.specs.AccountPage.{pageLength, accountPage}
 use Rattle.replay.specs.declared.Record.{Record}
 use Rattle.replay.specs.declared.Replayed.{Replayed}
 use Rattle.replay.specs.declared.Replayed.the-variants.{Written, Empty, Bad, Short, Refused}
@@ -93,18 +93,18 @@ unlessRefused (answer.Refused n) r = Refused n
 
 -- once fresh is accepted: 'a cut record .. writes `short` and ends'; 'writer | 8 | buffer under 558 bytes'
 abbrev pub endOf : List ℕ → List ℕ → Replayed
-endOf s out = cond (eqb (length s % recordLength) 0) (cond (leb size (length out)) Written (Refused 8)) Short
+endOf s out = cond (eqb (length s % recordLength) 0) (cond (leb pageLength (length out)) Written (Refused 8)) Short
 
 -- 'Empty input writes nothing'; 'a cut record, the first too, writes `short`'; 'kind 0 .., else one line `bad`'; 'A refused fresh ends the run'
 unfoldable pub replayAnswer : List ℕ → List ℕ → Replayed
 replayAnswer s out =
     cond (eqb (length s) 0) Empty
     (cond (ltb (length s) recordLength) Short
-    (cond (eqb (firstIn s .kind) 0) (unlessRefused (startOf (firstIn s) .answer) (endOf s out)) Bad))
+    (cond (eqb (firstIn s .kind) 0) (unlessRefused (freshAnswer (settingsIn (firstIn s))) (endOf s out)) Bad))
 
 -- 'The writer leaves bytes past 558'; whatever else becomes of an input leaves every byte
 abbrev pub bufferAfter : Replayed → List ℕ → List ℕ → List ℕ
-bufferAfter Written page out = page ++ drop size out
+bufferAfter Written page out = page ++ drop pageLength out
 bufferAfter Empty page out = out
 bufferAfter Bad page out = out
 bufferAfter Short page out = out

@@ -2,6 +2,11 @@
 // drive, the lines of its listing; and a whole input at once, from its bytes to the page.
 ghost use mathlib.Core.Path.{_≡_};
 ghost use Rattle.replay.specs.Replay.{replayAnswer, replayed};
+ghost use Rattle.replay.specs.Laws.{Laws};
+ghost use Rattle.replay.specs.Examples.{Examples};
+ghost use Rattle.history.specs.Effects.{Fresh};
+ghost use Rattle.history.specs.Laws.{Laws as AccountLaws};
+ghost use Rattle.history.specs.Examples.{WorkedExample};
 
 mod input;
 mod listing;
@@ -52,6 +57,9 @@ pub enum Replayed {
 // byte of `page` stays where the answer is not Written.
 pub fn replay(records: &[u8], page: &mut [u8]) -> Replayed
     ensures { λ r. ⌜ (r ≡ replayAnswer (now (records .entry)) (now (page .entry))) × (now (page .exit) ≡ replayed (now (records .entry)) (now (page .entry))) ⌝ }
+    ensures laws { λ _. ⌜ Laws ⌝ }
+    ensures account { λ _. ⌜ ((f : Fresh) → AccountLaws f) ⌝ }
+    ensures examples { λ _. ⌜ WorkedExample × Examples ⌝ }
 {
     if records.len() == 0 {
         return Replayed::Empty;

@@ -27,7 +27,7 @@ same-length : tie.Need-same-length Inv-loop μ-loop
 same-length c = search needs
 
 returns : tie.Need-returns Inv-loop μ-loop
-returns c = rounds-refused _ _ _ _ (c .before .before .before .read-page .ensures) _ (c .before .answer .given .1)
+returns c = rounds-refused _ _ _ _ (c .before .before .before .read-page .ensures .0) _ (c .before .answer .given .1)
 
 enum-told : tie.Need-enum-told Inv-loop μ-loop
 enum-told c = search needs
@@ -67,9 +67,9 @@ returns-2 c =
     let end = writes .before .before in
     let l = end .before .loop in
     let told = end .before .before .before in
-    rounds-written _ _ _ _ (told .before .before .read-page .ensures) _ _ _ _ (told .enum-told .given .1)
+    rounds-written _ _ _ _ (told .before .before .read-page .ensures .0) _ _ _ _ (told .enum-told .given .1)
     (sym (no-round (l .left) (l .meter) _ (search needs)) ∙ l .inv)
-    (writes .write-page .ensures) (c .number .ensures)
+    (writes .write-page .ensures .0) (c .number .ensures)
 
 pub measure-calls-spec : {M : Type 1} → statement M
 measure-calls-spec =

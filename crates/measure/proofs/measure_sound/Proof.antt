@@ -58,7 +58,7 @@ returns : tie.Need-returns Inv-loop μ-loop
 returns c =
     let l = c .before .loop in
     let e : l .round ≡ c .before .before .before .before .before .args .rounds = omega arith in
-    rw (l .inv .1, e, c .before .before .before .read-page .ensures)
+    rw (l .inv .1, e, c .before .before .before .read-page .ensures .0)
 
 pub measure-sound-spec : {M : Type 1} → statement M
 measure-sound-spec =

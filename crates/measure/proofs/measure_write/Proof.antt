@@ -60,14 +60,14 @@ loop-again c =
     let page = turn .before .before .before .before .before .args .page .now in
     let same = same-round (l .meter) m (l .round) (l .inv .2) in
     let answers : writes .write-page .result ≡ writeAnswer (inRound m (l .round)) page =
-    writes .write-page .ensures .0
+    writes .write-page .ensures .0 .0
     ∙ ap (λ (x : Meter). writeAnswer x (l .page)) same
     ∙ answer-by-length (inRound m (l .round)) (l .page) page (l .inv .4) in (
       search needs,
       next-passing (l .round) (l .accepted) (c .one-if .result) (λ i. isAccepted (writeAnswer (inRound m i) page)) _ (l .inv .1) (c .one-if .ensures)
           (ap (λ (k : ℕ). eqb k 0) (c .before .number .ensures) ∙ ap isAccepted answers),
       l .inv .2,
-      writes .write-page .ensures .1 ∙ rw (same, l .inv .3) (next-written m page (l .round)),
+      writes .write-page .ensures .0 .1 ∙ rw (same, l .inv .3) (next-written m page (l .round)),
       search needs,
     )
 
@@ -78,7 +78,7 @@ returns : tie.Need-returns Inv-loop μ-loop
 returns c =
     let l = c .before .loop in
     let e : l .round ≡ c .before .before .before .before .before .before .args .rounds = omega arith in
-    let read = c .before .before .before .read-page .ensures in
+    let read = c .before .before .before .read-page .ensures .0 in
     (rw (l .inv .1, e, read), rw (l .inv .3, e, read))
 
 pub measure-write-spec : {M : Type 1} → statement M

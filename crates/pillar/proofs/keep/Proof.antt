@@ -32,7 +32,7 @@ same-length c = search needs
 returns-2 : tie.Need-returns-2
 returns-2 c =
     let writes = c .before .before .before in
-    kept-written _ _ _ _ _ (writes .before .before .enum-told .given .1) (c .number .ensures) (writes .write-page .ensures)
+    kept-written _ _ _ _ _ (writes .before .before .enum-told .given .1) (c .number .ensures) (writes .write-page .ensures .0)
 
 pub keep-spec : {M : Type 1} → statement M
 keep-spec =

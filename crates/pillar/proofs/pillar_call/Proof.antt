@@ -18,7 +18,7 @@ same-length : tie.Need-same-length
 same-length c = search needs
 
 returns : tie.Need-returns
-returns c = call-refused _ _ _ _ _ _ _ _ (c .before .before .before .read-page .ensures) _ (c .before .answer .given .1)
+returns c = call-refused _ _ _ _ _ _ _ _ (c .before .before .before .read-page .ensures .0) _ (c .before .answer .given .1)
 
 enum-told : tie.Need-enum-told
 enum-told c = search needs
@@ -35,7 +35,7 @@ same-length-2 c = search needs
 returns-2 : tie.Need-returns-2
 returns-2 c =
     let command = c .before .before .before .before in
-    call-kept _ _ _ _ _ _ _ _ (command .before .before .before .read-page .ensures) _ _ _ (command .before .enum-told .given .1) (command .command .ensures) (c .before .before .keep .ensures)
+    call-kept _ _ _ _ _ _ _ _ (command .before .before .before .read-page .ensures .0) _ _ _ (command .before .enum-told .given .1) (command .command .ensures) (c .before .before .keep .ensures)
 
 pub pillar-call-spec : {M : Type 1} → statement M
 pillar-call-spec =

@@ -17,7 +17,7 @@ cast-result : tie.Need-cast-result
 cast-result c = search needs
 
 returns : tie.Need-returns
-returns c = c .number .ensures ∙ ap (λ (o : Outcome). answerNumber (o .answer)) (c .before .read-page .ensures)
+returns c = c .number .ensures ∙ ap (λ (o : Outcome). answerNumber (o .answer)) (c .before .read-page .ensures .0)
 
 pub pillar-check-spec : {M : Type 1} → statement M
 pillar-check-spec = tie.close (tie.spec read-page-requires number-requires cast-result returns)

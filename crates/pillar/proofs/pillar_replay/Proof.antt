@@ -18,7 +18,7 @@ same-length c = search needs
 returns : tie.Need-returns
 returns c =
     let replay = c .before .before .before in
-    (c .replayed-number .ensures ∙ ap replayNumber (replay .replay .ensures .0), replay .replay .ensures .1)
+    (c .replayed-number .ensures ∙ ap replayNumber (replay .replay .ensures .0 .0), replay .replay .ensures .0 .1)
 
 pub pillar-replay-spec : {M : Type 1} → statement M
 pillar-replay-spec =

@@ -10,9 +10,22 @@ use borrow.Author.Tests.{eq-eqb, ne-eqb, lt-ltb, le-ltb}
 use Rattle.replay.specs.declared.Record.{Record}
 use Rattle.replay.specs.declared.Replayed.the-variants.{Written, Empty, Bad, Short, Refused}
 use Rattle.replay.specs.Replay.{recordLength, firstIn, startOf, unlessRefused, replayAnswer, replayed}
+use Rattle.history.specs.Effects.{Fresh}
+use Rattle.history.specs.Laws.{Laws as AccountLaws}
+use Rattle.history.specs.Examples.{WorkedExample}
+use Rattle.history.proofs.Laws as account
+use Rattle.history.proofs.Examples.{worked-example}
+use Rattle.replay.specs.Laws.{Laws}
+use Rattle.replay.specs.Examples.{Examples}
+use Rattle.replay.proofs.Laws.{laws}
+use Rattle.replay.proofs.Examples.{examples}
 use Rattle.replay.proofs.Runs.{with-bytes, Begun, begun, ended}
 use Rattle.replay.proofs.replay.Statement.{statement}
 use Rattle.replay.proofs.replay.Tie as tie
+
+-- what is promised beside the equations, of every input alike
+claims : Laws × (((f : Fresh) → AccountLaws f) × (WorkedExample × Examples))
+claims = (laws, (account.laws, (worked-example, examples)))
 
 -- the input and the buffer, as they came
 abbrev input : tie.Start → List ℕ
@@ -60,15 +73,15 @@ page-written c =
     let fresh = whole .before .before .before in
     let known = fresh .before .before .before .before .before .before .before in
     ended (begins fresh) (λ i. omega (arith, known .shared-slice-known .given i)) (whole .before .enum-told .given .1) (eq-eqb _ _ (whole .if4 .left))
-    (run .run-from .result) (c .write-page .result) (c .write-page .last .1 .0) (run .run-from .ensures) (c .write-page .ensures)
+    (run .run-from .result) (c .write-page .result) (c .write-page .last .1 .0) (run .run-from .ensures) (c .write-page .ensures .0)
 
 returns : tie.Need-returns
 unfolding replayAnswer
-returns c = with-bytes _ _ Empty (rw (eq-eqb _ _ (c .if1 .taken)))
+returns c = (with-bytes _ _ Empty (rw (eq-eqb _ _ (c .if1 .taken))), claims)
 
 returns-2 : tie.Need-returns-2
 unfolding replayAnswer
-returns-2 c = with-bytes _ _ Short (rw (some (c .before), lt-ltb _ _ (c .if2 .taken)))
+returns-2 c = (with-bytes _ _ Short (rw (some (c .before), lt-ltb _ _ (c .if2 .taken))), claims)
 
 record-at-requires : tie.Need-record-at-requires
 record-at-requires c κs = search needs
@@ -78,7 +91,7 @@ unfolding replayAnswer
 returns-3 c =
     let first = c .before .before in
     let other = rw (kind-read first) at (ne-eqb _ _ (c .if3 .taken)) in
-    with-bytes _ _ Bad (rw (some (first .before .before), first-whole (first .before), other))
+    (with-bytes _ _ Bad (rw (some (first .before .before), first-whole (first .before), other)), claims)
 
 start-requires : tie.Need-start-requires
 start-requires c κs = search needs
@@ -87,15 +100,14 @@ enum-known-answer : tie.Need-enum-known-answer
 enum-known-answer c = search needs
 
 returns-4 : tie.Need-returns-4
-returns-4 c = with-bytes _ _ (Refused _) (begins (c .before .before .before) .answer ∙ rw (c .before .answer .given .1))
+returns-4 c = (with-bytes _ _ (Refused _) (begins (c .before .before .before) .answer ∙ rw (c .before .answer .given .1)), claims)
 
 enum-told : tie.Need-enum-told
 enum-told c = search needs
 
 returns-5 : tie.Need-returns-5
 returns-5 c =
-    with-bytes _ _ Short
-    (begins (c .before .before .before) .answer ∙ rw (c .before .enum-told .given .1, ne-eqb _ _ (c .if4 .taken)))
+    (with-bytes _ _ Short (begins (c .before .before .before) .answer ∙ rw (c .before .enum-told .given .1, ne-eqb _ _ (c .if4 .taken))), claims)
 
 run-from-requires : tie.Need-run-from-requires
 run-from-requires c κs = search needs
@@ -113,13 +125,13 @@ same-length : tie.Need-same-length
 same-length c = search needs
 
 returns-6 : tie.Need-returns-6
-returns-6 c = rw (c .enum-told2 .given .1) at (page-written (c .before .before .before .before))
+returns-6 c = (rw (c .enum-told2 .given .1) at (page-written (c .before .before .before .before)), claims)
 
 same-length-2 : tie.Need-same-length-2
 same-length-2 c = search needs
 
 returns-7 : tie.Need-returns-7
-returns-7 c = rw (c .before .written .given .1) at (page-written (c .before .before .before .before .before))
+returns-7 c = (rw (c .before .written .given .1) at (page-written (c .before .before .before .before .before)), claims)
 
 pub replay-spec : {M : Type 1} → statement M
 replay-spec =

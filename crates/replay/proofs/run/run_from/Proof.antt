@@ -4,7 +4,8 @@ use native.Mathlib.Omega.{arith}
 use borrow.Author.Needs.{needs}
 use Rattle.logs.specs.Layout.{arrays, Sized}
 use Rattle.meter.specs.State.{withLogs}
-use Rattle.meter.specs.Machine.{outcomeOf}
+use Rattle.meter.specs.Parts.{outcomeOf}
+use Rattle.meter.proofs.Laws.{built-in}
 use Rattle.replay.specs.Replay.{recordsFrom, runFrom}
 use Rattle.replay.proofs.Runs.{next-turn, last-turn}
 use Rattle.replay.proofs.run.run_from.Statement.{statement}
@@ -59,7 +60,7 @@ loop-again c =
     (turn .loop-test .taken)
     (l .inv .0)
     (read .whole-record-at .ensures)
-    (call .ensures (l .inv .0)) in
+    (call .ensures ∙ built-in .command-in-parts (withLogs (l .scalars) (l .counts) (l .clocks) (l .codes)) _ _ _ _ _ _ (l .inv .0)) in
     (k .0, k .1 ∙ l .inv .1)
 
 with-logs-requires : tie.Need-with-logs-requires Inv-loop μ-loop

@@ -29,7 +29,7 @@ room : (c : tie.After-step)
     → (c .step .result .count ≤ length (c .step .result .clocks)) × (c .step .result .count ≤ length (c .step .result .codes))
 room c =
     let a = start (c .before .before) .args in
-    lines-room (c .step .result) (result builtIn (a .self) (a .call)) (c .step .ensures)
+    lines-room (c .step .result) (a .self) (result builtIn (a .self) (a .call)) (c .step .ensures)
 
 -- the step, before the arrays are lent to what clears a log
 abbrev stepped : tie.After-clear-log → tie.After-step
@@ -42,7 +42,7 @@ sound-requires-2 : tie.Need-sound-requires-2
 sound-requires-2 c κs = search needs
 
 returns : tie.Need-returns
-returns c z = not-sound builtIn _ _ (sym (tested (c .before)) ∙ not-true _ (c .if1 .taken))
+returns c = not-sound builtIn _ _ (sym (tested (c .before)) ∙ not-true _ (c .if1 .taken))
 
 step-requires : tie.Need-step-requires
 step-requires c κs = search needs
@@ -66,13 +66,13 @@ append-lines-requires : tie.Need-append-lines-requires
 append-lines-requires c κs = search needs
 
 returns-2 : tie.Need-returns-2
-returns-2 c z =
+returns-2 c =
     let lines = c .before in
     let clear = lines .before .before .before .before .before .before .before .before in
     let s = stepped clear in
     let b = s .before .before in
     let m = start b in
-    finished builtIn (given m) (m .args .call) z (sym (tested b) ∙ not-false _ (s .before .if1 .left))
+    finished builtIn (given m) (m .args .call) (sym (tested b) ∙ not-false _ (s .before .if1 .left))
     (s .step .result)
     (arrays (clear .clear-log .last .0) (clear .clear-log .last .1 .0) (clear .clear-log .last .1 .1 .0))
     (arrays (lines .append-lines .last .0) (lines .append-lines .last .1 .0) (lines .append-lines .last .1 .1 .0))

@@ -9,12 +9,13 @@ use Rattle.control.specs.declared.Decision.{Decision}
 use Rattle.control.specs.declared.Decision.the-variants.{Move, Stay, NotListed}
 use Rattle.control.proofs.Decision as decisions
 use Rattle.meter.specs.declared.step.Scalars.{Scalars}
-use Rattle.meter.specs.Machine.{moving, answering, requestResult, stepOf}
+use Rattle.meter.specs.Machine.{moving, answering, requestResult}
+use Rattle.meter.specs.Parts.{stepFor, stepOf}
 use Rattle.meter.proofs.step.Scalars.request.Statement.{statement}
 use Rattle.meter.proofs.step.Scalars.request.Tie as tie
 
 -- what is listed is carried out
-listed : (s : Scalars) (d : Decision) → OneOf (0 ∷ 1 ∷ []) (tagOf decisions.the-type d) → stepOf (moving s [] d) ≡ stepOf (answering s d)
+listed : (s : Scalars) (d : Decision) → OneOf (0 ∷ 1 ∷ []) (tagOf decisions.the-type d) → stepFor (moving s [] d) ≡ stepOf s (answering s d)
 listed s (Move t c o) h = refl
 listed s Stay h = refl
 listed s NotListed (inl e) = absurd (omega arith)

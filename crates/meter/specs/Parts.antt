@@ -1,0 +1,70 @@
+-- The machine as the code does it, on a record in parts: the scalars by value, the arrays of the logs as they stand, of any length and any content.
+use Prim.Native.Nat.{ℕ, _-_}
+use mathlib.Core.Bool.{cond}
+use mathlib.Core.List.{List, [], _++_, map}
+use lib.ListN.{length, replicate}
+use Rattle.events.specs.Table.{Row}
+use Rattle.logs.specs.declared.Logs.{Logs}
+use Rattle.logs.specs.Layout.{clockOf, codeOf, extendedArrays, zeroedArrays}
+use Rattle.calls.specs.declared.Call.{Call}
+use Rattle.calls.specs.declared.Answer.the-variants.{Accepted, Refused}
+use Rattle.calls.specs.declared.Parsed.{Parsed}
+use Rattle.calls.specs.declared.Parsed.the-variants.{Ok, NoKind}
+use Rattle.calls.specs.Calls.{callOf}
+use Rattle.meter.specs.declared.Meter.{Meter}
+use Rattle.meter.specs.declared.Outcome.{Outcome}
+use Rattle.meter.specs.declared.parts.Answered.{Answered}
+use Rattle.meter.specs.declared.step.Scalars.{Scalars}
+use Rattle.meter.specs.declared.step.Step.{Step}
+use Rattle.meter.specs.State.{scalarsOf, withLogs}
+use Rattle.meter.specs.Sound.{soundMeter}
+use Rattle.meter.specs.Machine.{Change, Result, refusing, making, result}
+
+-- two places of numbers, zeros past them
+abbrev pub inTwo : List ℕ → List ℕ
+inTwo xs = xs ++ replicate (2 - length xs) 0
+
+-- a change as the code has it: the lines' clocks and codes in arrays of two
+abbrev pub stepFor : Change → Step
+stepFor k =
+    record {
+      scalars = k .scalars;
+      answer = Accepted;
+      cleared = k .cleared;
+      log = k .log;
+      count = length (k .lines);
+      clocks = inTwo (map clockOf (k .lines));
+      codes = inTwo (map codeOf (k .lines));
+    }
+
+-- a result as the code has it: refused, the scalars are those that came in, and nothing is owed
+abbrev pub stepOf : Scalars → Result → Step
+stepOf s (refusing n) = record { scalars = s; answer = Refused n; cleared = 0; log = 0; count = 0; clocks = inTwo []; codes = inTwo [] }
+stepOf s (making k) = stepFor k
+
+-- the outcome of what a call on a record in parts answers and the arrays that it leaves
+abbrev pub outcomeOf : Answered → List ℕ → List ℕ → List ℕ → Outcome
+outcomeOf a counts clocks codes = record { meter = withLogs (a .scalars) counts clocks codes; answer = a .answer }
+
+-- the arrays of the logs after a change: the clear, then the lines
+abbrev pub arraysAfter : Logs → Change → Logs
+arraysAfter g k = extendedArrays (k .log) (map clockOf (k .lines)) (map codeOf (k .lines)) (zeroedArrays (k .cleared) g)
+
+-- the record of a change's scalars and those arrays; refused, the record that came in
+abbrev pub leftIn : Meter → Result → Outcome
+leftIn m (refusing n) = record { meter = m; answer = Refused n }
+leftIn m (making k) =
+    let g = arraysAfter (m .logs) k in
+    record { meter = withLogs (k .scalars) (g .counts) (g .clocks) (g .codes); answer = Accepted }
+
+-- a call on a record in parts; of arrays of their types' lengths it is the machine's (see Laws)
+unfoldable pub appliedInParts : List Row → Meter → Call → Outcome
+appliedInParts rows m c = cond (soundMeter rows m) (leftIn m (result rows (scalarsOf m) c)) (record { meter = m; answer = Refused 12 })
+
+-- a command on a record in parts
+abbrev pub performedInParts : List Row → Meter → Parsed → Outcome
+performedInParts rows m (Ok c) = appliedInParts rows m c
+performedInParts rows m NoKind = record { meter = m; answer = Refused 13 }
+
+unfoldable pub commandedInParts : List Row → Meter → ℕ → ℕ → ℕ → ℕ → ℕ → ℕ → Outcome
+commandedInParts rows m k n1 n2 n3 n4 n5 = performedInParts rows m (callOf k n1 n2 n3 n4 n5)

@@ -1,0 +1,105 @@
+-- The page that document 01 prints of an account is the page of the record that holds the account.
+-- Assumes nothing.
+use mathlib.Core.Path.{_≡_, refl, ap, _∙_, sym}
+use mathlib.Core.Bool.{true}
+use mathlib.Core.List.{List, [], _∷_, _++_, append-assoc, append-nil, map, map-append, flatMap, reverse}
+use Prim.Native.Nat.{ℕ, zero, suc, _-_, _*_, _≤_}
+use native.Mathlib.Nat.{suc-mul}
+use native.Mathlib.Omega.{arith}
+use lib.ListN.{length, replicate, length-append, length-map, length-replicate}
+use Rattle.codec.specs.Format.{be, encs}
+use Rattle.events.specs.Line.{Line, line}
+use Rattle.events.specs.Table.{builtIn}
+use Rattle.events.proofs.Rule.{built-in-lawful}
+use Rattle.logs.specs.Layout.{clockOf, codeOf, padded, flat, laid}
+use Rattle.logs.proofs.Kept.{lists-length, lists-short}
+use Rattle.logs.proofs.Places.{Short, none, more}
+use Rattle.calls.specs.declared.Call.{Call}
+use Rattle.calls.specs.Calls.{AllInRange}
+use Rattle.history.specs.Effects.{Fresh}
+use Rattle.history.specs.Account.{Account, account}
+use Rattle.meter.specs.State.{recordOf}
+use Rattle.meter.specs.Sound.{soundState}
+use Rattle.meter.specs.Fresh.{Settings, holding}
+use Rattle.meter.proofs.Values.{logs-sound}
+use Rattle.meter.proofs.Simulates.{named-sound}
+use Rattle.meter.proofs.Laws.{turned}
+use Rattle.page.specs.Layout.{controlArea, limiterArea, clockArea, registerArea, lineFormat, logArea, logsArea, areasOf, ofAreas, layout, directory, pageOf}
+use Rattle.page.specs.AccountPage.{printedPairs, fields, lineBytes, logBytes, accountPage}
+use Rattle.page.proofs.Lines.{encs-append}
+use Rattle.page.proofs.Inverse.{three-back}
+
+-- the 32 places of a log
+abbrev filled : List Line → List Line
+filled xs = xs ++ replicate (32 - length xs) (line 0 0)
+
+-- the area of a log
+abbrev area : List Line → ℕ × List Line
+area xs = (length xs, filled xs)
+
+length-filled : (xs : List Line) → length xs ≤ 32 → length (filled xs) ≡ 32
+length-filled xs h = rw (length-append, length-replicate) (omega arith)
+
+map-zeros : (f : Line → ℕ) → f (line 0 0) ≡ 0 → (k : ℕ) → map f (replicate k (line 0 0)) ≡ replicate k 0
+map-zeros f e zero = refl
+map-zeros f e (suc k) = rw (e, map-zeros f e k)
+
+column-filled : (f : Line → ℕ) → f (line 0 0) ≡ 0 → (xs : List Line) → padded (map f xs) ≡ map f (filled xs)
+unfolding padded
+column-filled f e xs = rw (length-map, map-append, map-zeros f e (32 - length xs))
+
+laid-areas : (x y z : List Line) → laid (x ∷ y ∷ z ∷ []) ≡ ofAreas (area x ∷ area y ∷ area z ∷ [])
+unfolding laid ofAreas flat flatMap
+laid-areas x y z =
+    rw (column-filled clockOf refl x, column-filled clockOf refl y, column-filled clockOf refl z, column-filled codeOf refl x, column-filled codeOf refl y, column-filled codeOf refl z)
+
+zero-lines : (k : ℕ) → encs lineFormat (replicate k (line 0 0)) ≡ replicate (k * 5) 0
+unfolding flatMap be
+zero-lines zero = refl
+zero-lines (suc k) =
+    let w : suc k * 5 ≡ suc (suc (suc (suc (suc (k * 5))))) = omega arith in
+    rw (zero-lines k, w)
+
+log-written : (xs : List Line) → logArea .enc (area xs) ≡ logBytes xs
+unfolding logBytes
+log-written xs = rw (encs-append lineFormat xs (replicate (32 - length xs) (line 0 0)), zero-lines (32 - length xs))
+
+logs-written : (logs : List (List Line)) → length logs ≡ 3 → Short logs → logsArea .enc (laid logs) ≡ flatMap logBytes logs
+unfolding flatMap
+logs-written [] t s = absurd (omega arith)
+logs-written (x ∷ []) t s = absurd (omega arith)
+logs-written (x ∷ y ∷ []) t s = absurd (omega arith)
+logs-written (x ∷ y ∷ z ∷ w ∷ l) t s = absurd (omega arith)
+logs-written (x ∷ y ∷ z ∷ []) t (more i (more j (more k none))) =
+    ap (encs logArea) (ap areasOf (laid-areas x y z) ∙ three-back (area x) (area y) (area z) (length-filled x i) (length-filled y j) (length-filled z k))
+    ∙ rw (log-written x, log-written y, log-written z)
+
+module _ (a : Account) where
+  pairs-written : flatMap (λ (p : ℕ × ℕ). be 2 (p .0) ++ be 2 (p .1)) printedPairs ≡ directory
+  unfolding directory
+  pairs-written = refl
+
+  fields-written : (r : List ℕ)
+      → flatMap (λ (f : ℕ × ℕ). be (f .1) (f .0)) (fields a) ++ r
+      ≡ controlArea .enc (holding a .scalars .control)
+      ++ (limiterArea .enc (holding a .scalars .limiter)
+      ++ (clockArea .enc (a .clock)
+      ++ (registerArea .enc (holding a .scalars .alarms)
+      ++ (registerArea .enc (holding a .scalars .errors) ++ r))))
+  unfolding flatMap
+  fields-written r = simp (append-assoc, append-nil)
+
+  pub account-written : length (a .logs) ≡ 3 → Short (a .logs) → accountPage a ≡ pageOf (recordOf (holding a))
+  unfolding accountPage layout
+  account-written t s = rw (pairs-written, fields-written (flatMap logBytes (a .logs)), ← logs-written (a .logs) t s)
+
+  sound-written : soundState builtIn (holding a) ≡ true → accountPage a ≡ pageOf (recordOf (holding a))
+  sound-written e =
+      let logs = logs-sound builtIn (holding a) e in
+      account-written (lists-length builtIn (a .logs) logs) (lists-short builtIn (a .logs) logs)
+
+-- of the account of every list of calls from accepted settings
+pub list-written : (f : Fresh) (calls : List Call) → Settings f → AllInRange calls
+    → accountPage (account builtIn f calls) ≡ pageOf (recordOf (holding (account builtIn f calls)))
+list-written f calls t i =
+    sound-written (account builtIn f calls) (named-sound builtIn built-in-lawful f t (reverse calls) (turned calls [] i tt))
