@@ -3,7 +3,8 @@
 use mathlib.Core.Path.{_≡_, refl}
 use mathlib.Core.Bool.{true, false}
 use mathlib.Core.List.{[], _∷_}
-use Rattle.codec.specs.Format.{be, numAt, num, flag, _⊗_, times}
+use Rattle.codec.specs.BigEndian.{be}
+use Rattle.codec.specs.Format.{numAt, num, flag, _⊗_, times}
 
 -- 16909060 is 1 * 256^3 + 2 * 256^2 + 3 * 256 + 4: the highest byte stands first
 be-example : be 4 16909060 ≡ 1 ∷ 2 ∷ 3 ∷ 4 ∷ []

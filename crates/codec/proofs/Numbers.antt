@@ -10,7 +10,8 @@ use lib.Arith.{digits-div, digits-mod, digits-lt, mod-mul}
 use lib.Pow.{pow-add}
 use lib.ListN.{length, getD, take, drop, length-append, List·getD-eq-default}
 use lib.Seq.{getD-at, drop-cons}
-use Rattle.codec.specs.Format.{be, numAt}
+use Rattle.codec.specs.BigEndian.{be}
+use Rattle.codec.specs.Format.{numAt}
 use Rattle.codec.specs.Lawful.{Bytes}
 
 pub pow-pos : (k : ℕ) → 0 < 256 ^ k

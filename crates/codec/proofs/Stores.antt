@@ -8,7 +8,8 @@ use native.Mathlib.Numerals.{add-one}
 use native.Mathlib.Omega.{arith}
 use lib.ListN.{set, length, getD, take, drop, length-append, length-drop}
 use lib.Seq.{sets, sets-eq, length-take-le, take-all, take-append-seam, drop-append-add, take-suc-set, drop-drop}
-use Rattle.codec.specs.Format.{be, Format, encs, decs, AllHold}
+use Rattle.codec.specs.BigEndian.{be}
+use Rattle.codec.specs.Format.{Format, encs, decs, AllHold}
 use Rattle.codec.specs.Lawful.{Lawful}
 use Rattle.codec.proofs.Numbers.{length-be, be-halves}
 use Rattle.codec.proofs.Formats.{length-encs}

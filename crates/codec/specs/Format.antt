@@ -3,16 +3,12 @@
 use mathlib.Core.Path.{_≡_}
 use mathlib.Core.Bool.{Bool, true, _&&_, cond}
 use mathlib.Core.List.{List, [], _∷_, _++_, flatMap}
-use Prim.Native.Nat.{ℕ, zero, suc, _+_, _*_, _/_, _%_, _^_, _<_}
+use Prim.Native.Nat.{ℕ, zero, suc, _+_, _*_, _^_, _<_}
 use lib.ListN.{length, getD}
 use lib.Dec.{T, leb, eqb}
 use lib.IntN.{ℤ, pos, natAbs}
 use lib.Signed.{nonNeg}
-
--- v in w bytes, 'big-endian': the highest byte first
-unfoldable pub be : ℕ → ℕ → List ℕ
-be zero v = []
-be (suc k) v = (v / 256 ^ k % 256) ∷ be k v
+use Rattle.codec.specs.BigEndian.{be}
 
 -- the number in the w bytes of s from index at; a byte past the end of s counts as zero
 unfoldable pub numAt : ℕ → List ℕ → ℕ → ℕ

@@ -1,2 +1,3 @@
+pub mod BigEndian
 pub mod Format
 pub mod Lawful

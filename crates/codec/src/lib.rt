@@ -7,7 +7,8 @@ ghost use mathlib.Core.Path.{_≡_};
 ghost use Prim.Native.Nat.{_+_, _*_, _≤_};
 ghost use lib.ListN.{length};
 ghost use lib.Seq.{sets};
-ghost use Rattle.codec.specs.Format.{be, numAt, flag};
+ghost use Rattle.codec.specs.BigEndian.{be};
+ghost use Rattle.codec.specs.Format.{numAt, flag};
 
 pub fn put_u8(out: &mut [u8], at: usize, v: u8)
     requires { ⌜ at + 1 ≤ length (now out) ⌝ }

@@ -9,7 +9,7 @@ pub data Letter : Type 0 where
   a b c d e f g h : Letter
 
 -- a row: 'Move | Modes | From → to | Line in log 3'
-pub record Row : Type 0 where
+pub record SwitchRow : Type 0 where
   pub letter : Letter
   pub request : Request
   pub modes : List ℕ
@@ -18,22 +18,22 @@ pub record Row : Type 0 where
   pub code : ℕ
 
 -- a row by its columns
-abbrev pub row : Letter → Request → List ℕ → ℕ → ℕ → ℕ → Row
-row x q ms s t n = record { letter = x; request = q; modes = ms; from = s; to = t; code = n }
+abbrev pub switchRow : Letter → Request → List ℕ → ℕ → ℕ → ℕ → SwitchRow
+switchRow x q ms s t n = record { letter = x; request = q; modes = ms; from = s; to = t; code = n }
 
 -- '1–6'
 abbrev pub oneToSix : List ℕ
 oneToSix = 1 ∷ 2 ∷ 3 ∷ 4 ∷ 5 ∷ 6 ∷ []
 
 -- the rows in document 01's order; 'b, c' is b from state 1 and c from state 2
-unfoldable pub switchTable : List Row
+unfoldable pub switchTable : List SwitchRow
 switchTable =
-    row a RemoteReconnect (2 ∷ 4 ∷ []) 0 1 63
-    ∷ row d RemoteReconnect (1 ∷ 3 ∷ 5 ∷ 6 ∷ []) 0 2 59
-    ∷ row b RemoteDisconnect oneToSix 1 0 62
-    ∷ row c RemoteDisconnect oneToSix 2 0 62
-    ∷ row e ManualReconnect oneToSix 2 1 61
-    ∷ row f ManualDisconnect (1 ∷ 2 ∷ 5 ∷ []) 1 2 60
-    ∷ row g LocalDisconnect oneToSix 1 2 64
-    ∷ row h LocalReconnect (5 ∷ 6 ∷ []) 2 1 69
+    switchRow a RemoteReconnect (2 ∷ 4 ∷ []) 0 1 63
+    ∷ switchRow d RemoteReconnect (1 ∷ 3 ∷ 5 ∷ 6 ∷ []) 0 2 59
+    ∷ switchRow b RemoteDisconnect oneToSix 1 0 62
+    ∷ switchRow c RemoteDisconnect oneToSix 2 0 62
+    ∷ switchRow e ManualReconnect oneToSix 2 1 61
+    ∷ switchRow f ManualDisconnect (1 ∷ 2 ∷ 5 ∷ []) 1 2 60
+    ∷ switchRow g LocalDisconnect oneToSix 1 2 64
+    ∷ switchRow h LocalReconnect (5 ∷ 6 ∷ []) 2 1 69
     ∷ []

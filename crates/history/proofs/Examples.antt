@@ -13,11 +13,11 @@ use Rattle.calls.specs.declared.Call.the-variants.{Sample, RemoteDisconnect, Re
 use Rattle.history.specs.Effects.{Fresh, remoteDisconnect, manualDisconnect, manualReconnect, sampled, requested}
 use Rattle.history.specs.Switch.{decides}
 use Rattle.history.specs.Account.{accountOf}
-use Rattle.history.specs.Examples.{fresh, after, answer, codes, WorkedExample}
+use Rattle.history.specs.Examples.{fresh, builtInAccount, answer, codes, WorkedExample}
 
 -- ---- the worked example
 pub worked-example : WorkedExample
-unfolding after
+unfolding builtInAccount
 worked-example = record { prints = refl; logsThen = refl; lowestPower = refl; longestOver = refl; thirtyThirdLine = refl }
 
 -- ---- 'a call's refusal follows from its numbers and the mode last accepted'
@@ -27,7 +27,7 @@ refusals :
     ∷ SetLimiter (pos 0) 86400 1 ∷ SetLimiter (negsuc 0) 0 0 ∷ SetLimiter (pos 0) 86401 1 ∷ SetLimiter (pos 0) 1 0
     ∷ Event 68 ∷ Event 3 ∷ Event 262 ∷ ClearLog 3 ∷ ClearLog 0 ∷ ClearLog 257 ∷ [])
     ≡ 0 ∷ 1 ∷ 1 ∷ 0 ∷ 2 ∷ 3 ∷ 0 ∷ 0 ∷ 3 ∷ 0 ∷ 4 ∷ 5 ∷ 5 ∷ 0 ∷ 6 ∷ 6 ∷ 0 ∷ 7 ∷ 7 ∷ []
-unfolding after
+unfolding builtInAccount
 refusals = refl
 
 -- 'calls 2–5, also by script: mode not in the switch table for that request': modes 0 to 6
@@ -38,20 +38,20 @@ mode-rule :
     map requests (RemoteDisconnect ∷ RemoteReconnect ∷ ManualDisconnect ∷ ManualReconnect ∷ Script 1 ∷ [])
     ≡ (2 ∷ 0 ∷ 0 ∷ 0 ∷ 0 ∷ 0 ∷ 0 ∷ []) ∷ (2 ∷ 0 ∷ 0 ∷ 0 ∷ 0 ∷ 0 ∷ 0 ∷ []) ∷ (2 ∷ 0 ∷ 0 ∷ 2 ∷ 2 ∷ 0 ∷ 2 ∷ []) ∷ (2 ∷ 0 ∷ 0 ∷ 0 ∷ 0 ∷ 0 ∷ 0 ∷ [])
     ∷ (2 ∷ 0 ∷ 0 ∷ 0 ∷ 0 ∷ 0 ∷ 0 ∷ []) ∷ []
-unfolding after requests
+unfolding builtInAccount requests
 mode-rule = refl
 
 -- ---- the clock: 'last set, else fresh, plus samples since, held'
-clock-of-samples : after (fresh 1 0 1 1 1000) (Sample (pos 0) ∷ Event 1 ∷ Sample (pos 0) ∷ []) .clock ≡ 1002
-unfolding after
+clock-of-samples : builtInAccount (fresh 1 0 1 1 1000) (Sample (pos 0) ∷ Event 1 ∷ Sample (pos 0) ∷ []) .clock ≡ 1002
+unfolding builtInAccount
 clock-of-samples = refl
 
-clock-set : after (fresh 1 0 1 1 1000) (Sample (pos 0) ∷ SetClock 50 ∷ Sample (pos 0) ∷ Sample (pos 0) ∷ []) .clock ≡ 52
-unfolding after
+clock-set : builtInAccount (fresh 1 0 1 1 1000) (Sample (pos 0) ∷ SetClock 50 ∷ Sample (pos 0) ∷ Sample (pos 0) ∷ []) .clock ≡ 52
+unfolding builtInAccount
 clock-set = refl
 
-clock-held : after (fresh 1 0 1 1 1000) (SetClock 4294967295 ∷ Sample (pos 0) ∷ []) .clock ≡ 4294967295
-unfolding after
+clock-held : builtInAccount (fresh 1 0 1 1 1000) (SetClock 4294967295 ∷ Sample (pos 0) ∷ []) .clock ≡ 4294967295
+unfolding builtInAccount
 clock-held = refl
 
 -- ---- the limiter
@@ -63,54 +63,54 @@ under = Sample (pos 3)
 
 -- the settings, Exceeded and Run
 abbrev limiter : Fresh → List Call → ℕ × ℕ × Bool × ℕ
-limiter f calls = let a = after f calls in (a .over, a .under, a .exceeded, a .run)
+limiter f calls = let a = builtInAccount f calls in (a .over, a .under, a .exceeded, a .run)
 
 -- 'it and the Over − 1 samples before it are all over'; power equal to the threshold is not over
 stretch-short : limiter (fresh 6 3 3 3 1000) (over ∷ over ∷ []) ≡ (3, 3, false, 2)
-unfolding after
+unfolding builtInAccount
 stretch-short = refl
 
 stretch-full : limiter (fresh 6 3 3 3 1000) (over ∷ over ∷ over ∷ []) ≡ (3, 3, true, 0)
-unfolding after
+unfolding builtInAccount
 stretch-full = refl
 
 stretch-broken : limiter (fresh 6 3 3 3 1000) (over ∷ over ∷ under ∷ over ∷ []) ≡ (3, 3, false, 1)
-unfolding after
+unfolding builtInAccount
 stretch-broken = refl
 
 -- 'a full under stretch likewise with Under and samples not over'
 under-short : limiter (fresh 6 3 1 3 1000) (over ∷ under ∷ under ∷ []) ≡ (1, 3, true, 2)
-unfolding after
+unfolding builtInAccount
 under-short = refl
 
 under-full : limiter (fresh 6 3 1 3 1000) (over ∷ under ∷ under ∷ under ∷ []) ≡ (1, 3, false, 0)
-unfolding after
+unfolding builtInAccount
 under-full = refl
 
 -- 'none of them before those were set', by place in the list: the same numbers set again begin anew
 setting-again : limiter (fresh 6 3 3 3 1000) (over ∷ SetLimiter (pos 3) 3 3 ∷ []) ≡ (3, 3, false, 0)
-unfolding after
+unfolding builtInAccount
 setting-again = refl
 
 stretch-since-setting : limiter (fresh 6 3 2 2 1000) (over ∷ SetLimiter (pos 3) 2 2 ∷ over ∷ []) ≡ (2, 2, false, 1)
-unfolding after
+unfolding builtInAccount
 stretch-since-setting = refl
 
 -- 'Other calls between don't break it'
 stretch-between :
     limiter (fresh 6 3 3 3 1000) (over ∷ Event 1 ∷ over ∷ SetClock 5 ∷ ManualReconnect ∷ SetMode 2 ∷ ClearLog 1 ∷ SetAlarmFilter 0 ∷ ClearErrors 0 ∷ over ∷ [])
     ≡ (3, 3, true, 0)
-unfolding after
+unfolding builtInAccount
 stretch-between = refl
 
 -- 'the latest full stretch, under any settings': a setting leaves Exceeded
 exceeded-stays : limiter (fresh 6 3 1 1 1000) (over ∷ SetLimiter (pos 100) 5 4 ∷ over ∷ []) ≡ (5, 4, true, 1)
-unfolding after
+unfolding builtInAccount
 exceeded-stays = refl
 
 -- 'by the settings in force at that sample'
 threshold-in-force : limiter (fresh 6 3 1 1 1000) (SetLimiter (pos 100) 1 1 ∷ over ∷ []) ≡ (1, 1, false, 0)
-unfolding after
+unfolding builtInAccount
 threshold-in-force = refl
 
 -- ---- the switch
@@ -119,43 +119,43 @@ abbrev positions : Fresh → List Call → List Call → List ℕ
 positions f calls [] = []
 positions f calls (c ∷ cs) =
     let all = calls ++ (c ∷ []) in
-    after f all .switch ∷ positions f all cs
+    builtInAccount f all .switch ∷ positions f all cs
 
 -- 'the last deciding call rules'
 manual-decides : positions (fresh 1 3 1 1 1000) [] (ManualDisconnect ∷ ManualDisconnect ∷ ManualReconnect ∷ ManualReconnect ∷ []) ≡ 2 ∷ 2 ∷ 1 ∷ 1 ∷ []
-unfolding after
+unfolding builtInAccount
 manual-decides = refl
 
 -- 'over firing outside mode 0', 'under firing in mode 5 or 6'
 firings-decide : map (λ m. positions (fresh m 3 1 1 1000) [] (over ∷ under ∷ [])) (0 ∷ 1 ∷ 4 ∷ 5 ∷ 6 ∷ []) ≡ (1 ∷ 1 ∷ []) ∷ (2 ∷ 2 ∷ []) ∷ (2 ∷ 2 ∷ []) ∷ (2 ∷ 1 ∷ []) ∷ (2 ∷ 1 ∷ []) ∷ []
-unfolding after
+unfolding builtInAccount
 firings-decide = refl
 
 -- 'A sample that changes Exceeded is a firing': none again while Exceeded, after a manual reconnect
 firing-once : positions (fresh 1 3 1 1 1000) [] (over ∷ ManualReconnect ∷ over ∷ []) ≡ 2 ∷ 1 ∷ 1 ∷ []
-unfolding after
+unfolding builtInAccount
 firing-once = refl
 
 -- 'a remote reconnect ending a spell in mode 2 or 4' gives 1, 'in another mode' 2
 reconnect-decides :
     map (λ m. positions (fresh m 3 1 1 1000) [] (RemoteDisconnect ∷ RemoteReconnect ∷ [])) (1 ∷ 2 ∷ 3 ∷ 4 ∷ 5 ∷ 6 ∷ [])
     ≡ (0 ∷ 2 ∷ []) ∷ (0 ∷ 1 ∷ []) ∷ (0 ∷ 2 ∷ []) ∷ (0 ∷ 1 ∷ []) ∷ (0 ∷ 2 ∷ []) ∷ (0 ∷ 2 ∷ []) ∷ []
-unfolding after
+unfolding builtInAccount
 reconnect-decides = refl
 
 -- a remote reconnect that ends no spell decides nothing
 reconnect-outside : positions (fresh 1 3 1 1 1000) [] (RemoteReconnect ∷ ManualDisconnect ∷ RemoteReconnect ∷ []) ≡ 1 ∷ 2 ∷ 2 ∷ []
-unfolding after
+unfolding builtInAccount
 reconnect-outside = refl
 
 -- the mode at the time of the call counts, and a change of mode leaves the switch
 mode-at-the-call : positions (fresh 1 3 1 1 1000) [] (RemoteDisconnect ∷ SetMode 2 ∷ RemoteReconnect ∷ SetMode 3 ∷ []) ≡ 0 ∷ 0 ∷ 1 ∷ 1 ∷ []
-unfolding after
+unfolding builtInAccount
 mode-at-the-call = refl
 
 -- 'Inside one the switch is 0'; the call that ends a spell is not inside it
 spell-inside : positions (fresh 5 3 1 1 1000) [] (RemoteDisconnect ∷ ManualReconnect ∷ ManualDisconnect ∷ over ∷ under ∷ SetMode 6 ∷ RemoteDisconnect ∷ []) ≡ 0 ∷ 0 ∷ 0 ∷ 0 ∷ 0 ∷ 0 ∷ 0 ∷ []
-unfolding after
+unfolding builtInAccount
 spell-inside = refl
 
 -- 'Calls inside a spell decide nothing': neither the key nor a sample that fires
@@ -163,16 +163,16 @@ inside-a-spell :
     map (λ e. decides (fresh 5 3 1 1 1000) e (requested remoteDisconnect ∷ []))
     (requested manualReconnect ∷ requested manualDisconnect ∷ sampled (pos 4) ∷ [])
     ≡ none ∷ none ∷ none ∷ []
-unfolding after
+unfolding builtInAccount
 inside-a-spell = refl
 
 spell-ended-by-mode-zero : positions (fresh 1 3 1 1 1000) [] (ManualDisconnect ∷ RemoteDisconnect ∷ SetMode 0 ∷ []) ≡ 2 ∷ 0 ∷ 1 ∷ []
-unfolding after
+unfolding builtInAccount
 spell-ended-by-mode-zero = refl
 
 -- ---- openings: a move out of 1 alone, and held
-openings-out-of-one : after (fresh 2 3 1 1 1000) (ManualDisconnect ∷ RemoteDisconnect ∷ RemoteReconnect ∷ RemoteDisconnect ∷ []) .openings ≡ 2
-unfolding after
+openings-out-of-one : builtInAccount (fresh 2 3 1 1 1000) (ManualDisconnect ∷ RemoteDisconnect ∷ RemoteReconnect ∷ RemoteDisconnect ∷ []) .openings ≡ 2
+unfolding builtInAccount
 openings-out-of-one = refl
 
 openings-held : accountOf (fresh 2 3 1 1 1000) [] 4294967296 .openings ≡ 4294967295
@@ -180,46 +180,46 @@ openings-held = refl
 
 -- ---- the registers: alarms, their filter, errors, theirs
 abbrev registers : List Call → ℕ × ℕ × ℕ × ℕ
-registers calls = let a = after (fresh 1 3 1 1 1000) calls in (a .alarms, a .alarmFilter, a .errors, a .errorFilter)
+registers calls = let a = builtInAccount (fresh 1 3 1 1 1000) calls in (a .alarms, a .alarmFilter, a .errors, a .errorFilter)
 
 -- 'an event raised it': codes 6 and 16 have bits 0 and 11 in both registers, code 40 has alarm bit 13, code 1 has none
 raised : registers (Event 6 ∷ Event 16 ∷ Event 40 ∷ Event 1 ∷ []) ≡ (10241, 0, 2049, 0)
-unfolding after
+unfolding builtInAccount
 raised = refl
 
 -- 'A bit that is one in the filter at that moment is hidden and not set'
 hidden : registers (SetAlarmFilter 1 ∷ Event 6 ∷ Event 7 ∷ SetAlarmFilter 0 ∷ []) ≡ (2, 0, 3, 0)
-unfolding after
+unfolding builtInAccount
 hidden = refl
 
 -- 'A later filter neither sets nor clears'
 later-filter : registers (Event 6 ∷ SetAlarmFilter 1 ∷ SetErrorFilter 3 ∷ []) ≡ (1, 1, 1, 3)
-unfolding after
+unfolding builtInAccount
 later-filter = refl
 
 -- 'no clear of it .. came later'
 cleared : registers (Event 6 ∷ Event 7 ∷ ClearAlarms 1 ∷ []) ≡ (2, 0, 3, 0)
-unfolding after
+unfolding builtInAccount
 cleared = refl
 
 raised-again : registers (Event 6 ∷ ClearAlarms 1 ∷ ClearErrors 1 ∷ Event 6 ∷ []) ≡ (1, 0, 1, 0)
-unfolding after
+unfolding builtInAccount
 raised-again = refl
 
 -- 'error bit 0: nor clock setting'; alarm bit 0 and error bit 1 stand
 cleared-by-clock : registers (Event 6 ∷ Event 7 ∷ SetClock 5 ∷ []) ≡ (3, 0, 2, 0)
-unfolding after
+unfolding builtInAccount
 cleared-by-clock = refl
 
 -- ---- the logs
 abbrev logs : Fresh → List Call → List (List Line)
-logs f calls = after f calls .logs
+logs f calls = builtInAccount f calls .logs
 
 -- call 8: 'standard line 4 with the old clock, line 5 with the new'; calls 12, 13: 'standard line 11 or 10, mask 0 included'; call 9: 'one line in its log'
 lines-standard :
     logs (fresh 1 3 1 1 1000) (SetClock 50 ∷ ClearAlarms 0 ∷ Sample (pos 0) ∷ ClearErrors 0 ∷ Event 6 ∷ Event 40 ∷ Event 68 ∷ SetErrorFilter 1 ∷ Event 6 ∷ [])
     ≡ (line 1000 4 ∷ line 50 5 ∷ line 50 11 ∷ line 51 10 ∷ line 51 6 ∷ line 51 6 ∷ []) ∷ (line 51 40 ∷ []) ∷ (line 51 68 ∷ []) ∷ []
-unfolding after
+unfolding builtInAccount
 lines-standard = refl
 
 -- 65 and 66 whatever the mode and position, 64 and 69 with a move alone; every line at the clock after the sample
@@ -230,7 +230,7 @@ lines-of-firings :
     ∷ (line 1001 65 ∷ line 1002 66 ∷ [])
     ∷ (line 1001 65 ∷ line 1001 64 ∷ line 1002 66 ∷ [])
     ∷ []
-unfolding after
+unfolding builtInAccount
 lines-of-firings = refl
 
 -- the lines of the switch table, none where nothing moves; mode 0 logs 63 'if it was not 1'; call 7 logs 67
@@ -241,24 +241,24 @@ lines-of-moves :
     ∷ SetMode 2 ∷ RemoteReconnect ∷ SetMode 0 ∷ SetMode 1 ∷ ManualDisconnect ∷ SetMode 0 ∷ SetLimiter (pos 3) 1 1 ∷ []))
     2 [])
     ≡ 60 ∷ 61 ∷ 62 ∷ 59 ∷ 62 ∷ 63 ∷ 60 ∷ 63 ∷ 67 ∷ []
-unfolding after
+unfolding builtInAccount
 lines-of-moves = refl
 
 -- 'since that log was last cleared, its 255 included'
 lines-since-clear :
     logs (fresh 1 3 1 1 1000) (Event 1 ∷ Event 41 ∷ ClearLog 1 ∷ Sample (pos 0) ∷ Event 2 ∷ ClearLog 3 ∷ [])
     ≡ (line 1000 255 ∷ line 1001 2 ∷ []) ∷ (line 1000 41 ∷ []) ∷ (line 1001 255 ∷ []) ∷ []
-unfolding after
+unfolding builtInAccount
 lines-since-clear = refl
 
 -- ---- 'refused calls count for nothing', 'a list may be empty'
 refused-counts-nothing :
-    after (fresh 3 3 1 1 1000) (SetMode 7 ∷ ManualDisconnect ∷ SetLimiter (negsuc 0) 1 1 ∷ Event 3 ∷ ClearLog 0 ∷ Script 3 ∷ []) ≡ after (fresh 3 3 1 1 1000) []
-unfolding after
+    builtInAccount (fresh 3 3 1 1 1000) (SetMode 7 ∷ ManualDisconnect ∷ SetLimiter (negsuc 0) 1 1 ∷ Event 3 ∷ ClearLog 0 ∷ Script 3 ∷ []) ≡ builtInAccount (fresh 3 3 1 1 1000) []
+unfolding builtInAccount
 refused-counts-nothing = refl
 
 empty :
-    after (fresh 3 70 8 9 1000) []
+    builtInAccount (fresh 3 70 8 9 1000) []
     ≡ record { mode = 3; switch = 1; openings = 0; threshold = pos 70; over = 8; under = 9; exceeded = false; run = 0; clock = 1000; alarms = 0; alarmFilter = 0; errors = 0; errorFilter = 0; logs = [] ∷ [] ∷ [] ∷ [] }
-unfolding after
+unfolding builtInAccount
 empty = refl

@@ -1,13 +1,12 @@
 -- What holds of the account of every fresh meter.
 -- Assumes nothing.
-use Rattle.history.specs.Effects.{Fresh}
 use Rattle.history.specs.Limiter.{observations}
 use Rattle.history.specs.Laws.{Laws}
 use Rattle.history.proofs.Splits.{mode-split, limits-split, filter-split, clock-split, spell-split, switch-inside, switch-outside, mode-zero-decides, reconnect-decides, reconnect-outside-decides-nothing, inside-decides-nothing, stands-split, owed-split}
 use Rattle.history.proofs.Stretches.{others-unseen, in-force, in-force-limits, stretch-split, exceeded-split, run-split}
 use Rattle.history.proofs.Openings.{openings-accepted, account-accepted, refused-account}
 
-pub laws : (f : Fresh) → Laws f
+pub laws : Laws
 laws f =
     record {
       modeLast = mode-split f;

@@ -5,7 +5,7 @@ use mathlib.Core.Path.{_≡_, refl, sym, ap, _∙_}
 use mathlib.Core.Bool.{Bool, true, false, not, _&&_, cond}
 use mathlib.Core.List.{List, [], _∷_}
 use lib.Dec.{eqb}
-use Rattle.events.specs.Table.{Row}
+use Rattle.events.specs.Table.{EventRow}
 use Rattle.calls.specs.declared.Call.{Call}
 use Rattle.history.specs.Effects.{Fresh, Reading, refused, accepted, reading}
 use Rattle.history.specs.Last.{History, modeOf}
@@ -14,7 +14,7 @@ use Rattle.history.specs.Account.{grown, acceptedCalls, opens, openings,
 use Rattle.history.specs.Laws.{openingsOf}
 
 -- 'refused calls count for nothing'
-pub refused-nothing : (rows : List Row) (f : Fresh) (c : Call) (cs : List Call) (n : ℕ) → reading rows (modeOf f (acceptedCalls rows f cs)) c ≡ refused n → acceptedCalls rows f (c ∷ cs) ≡ acceptedCalls rows f cs
+pub refused-nothing : (rows : List EventRow) (f : Fresh) (c : Call) (cs : List Call) (n : ℕ) → reading rows (modeOf f (acceptedCalls rows f cs)) c ≡ refused n → acceptedCalls rows f (c ∷ cs) ≡ acceptedCalls rows f cs
 unfolding acceptedCalls
 refused-nothing rows f c cs n q = rw q
 
@@ -31,7 +31,7 @@ unfolding openingsOf
 one-call f (refused n) h = rw (opens-not (switchOf f h))
 one-call f (accepted e) h = refl
 
-pub openings-accepted : (rows : List Row) (f : Fresh) (cs : List Call) → openings rows f cs ≡ openingsOf f (acceptedCalls rows f cs)
+pub openings-accepted : (rows : List EventRow) (f : Fresh) (cs : List Call) → openings rows f cs ≡ openingsOf f (acceptedCalls rows f cs)
 unfolding openings acceptedCalls openingsOf
 openings-accepted rows f [] = refl
 openings-accepted rows f (c ∷ cs) =
@@ -39,10 +39,10 @@ openings-accepted rows f (c ∷ cs) =
     rw (openings-accepted rows f cs) (one-call f (reading rows (modeOf f h) c) h)
 
 -- the whole account: of the accepted calls alone, and the same before and after a refused call
-pub account-accepted : (rows : List Row) (f : Fresh) (cs : List Call) → accountAfter rows f cs ≡ accountOf f (acceptedCalls rows f cs) (openingsOf f (acceptedCalls rows f cs))
+pub account-accepted : (rows : List EventRow) (f : Fresh) (cs : List Call) → accountAfter rows f cs ≡ accountOf f (acceptedCalls rows f cs) (openingsOf f (acceptedCalls rows f cs))
 account-accepted rows f cs = ap (accountOf f (acceptedCalls rows f cs)) (openings-accepted rows f cs)
 
-pub refused-account : (rows : List Row) (f : Fresh) (c : Call) (cs : List Call) (n : ℕ) → reading rows (modeOf f (acceptedCalls rows f cs)) c ≡ refused n → accountAfter rows f (c ∷ cs) ≡ accountAfter rows f cs
+pub refused-account : (rows : List EventRow) (f : Fresh) (c : Call) (cs : List Call) (n : ℕ) → reading rows (modeOf f (acceptedCalls rows f cs)) c ≡ refused n → accountAfter rows f (c ∷ cs) ≡ accountAfter rows f cs
 refused-account rows f c cs n q =
     account-accepted rows f (c ∷ cs)
     ∙ ap (λ (h : History). accountOf f h (openingsOf f h)) (refused-nothing rows f c cs n q)

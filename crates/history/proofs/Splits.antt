@@ -13,12 +13,12 @@ use borrow.Author.Tests.{eqb-true, eq-eqb, ne-eqb}
 use Rattle.base.specs.Numbers.{held}
 use Rattle.base.specs.Tests.{among}
 use Rattle.events.specs.Line.{Line, line}
-use Rattle.history.specs.Effects.{Fresh, remoteDisconnect, remoteReconnect, manualDisconnect, manualReconnect, Register, Effect, sampled, requested, modeSet, limitsSet, clockSet, occurred, filterSet, bitsCleared, logCleared}
+use Rattle.history.specs.Effects.{Fresh, remoteDisconnect, remoteReconnect, manualDisconnect, manualReconnect, WhichRegister, Effect, sampled, requested, modeSet, limitsSet, clockSet, occurred, filterSet, bitsCleared, logCleared}
 use Rattle.history.specs.Last.{History, otherwise, last, modeIn, modeOf, Limits, limits, limitsIn, limitsOf, filterIn, filterOf, clockIn, samplesSince, clockOf}
 use Rattle.history.specs.Switch.{given, spellEdge, spell, decides, switchOf}
 use Rattle.history.specs.Registers.{raises, clears, stands}
 use Rattle.history.specs.Logs.{owedBy, clearsLog, owed}
-use Rattle.history.specs.Splits.{NonePicks, Latest, LatestElse, Ongoing, samplesIn, ClockSince, lastSet, neverSet, InSpell, linesOf, NotCleared, OwedSince, lastClear, neverCleared}
+use Rattle.history.specs.Splits.{NonePicks, Latest, LatestElse, Ongoing, samplesIn, ClockSince, lastSet, neverSet, InSpell, owedBetween, NotCleared, OwedSince, lastClear, neverCleared}
 use Rattle.history.proofs.Lists.{each-first, each-rest, each-only, latest-or-none, kept, latest-split, ongoing-split}
 
 some≢none : {A : Type 0} {a : A} → Path (Option A) (some a) none → ⊥
@@ -35,7 +35,7 @@ mode-split f = last-split modeIn (f .mode)
 pub limits-split : (f : Fresh) (h : History) (l : Limits) → (limitsOf f h ≡ l) ↔ LatestElse limitsIn (limits (f .threshold) (f .over) (f .under)) h l
 limits-split f = last-split limitsIn (limits (f .threshold) (f .over) (f .under))
 
-pub filter-split : (s : Register) (h : History) (n : ℕ) → (filterOf s h ≡ n) ↔ LatestElse (filterIn s) 0 h n
+pub filter-split : (s : WhichRegister) (h : History) (n : ℕ) → (filterOf s h ≡ n) ↔ LatestElse (filterIn s) 0 h n
 filter-split s = last-split (filterIn s) 0
 
 -- ---- 'Clock: last set, else fresh, plus samples since'
@@ -226,7 +226,7 @@ inside-decides-nothing f (bitsCleared s n) h i r z = refl
 inside-decides-nothing f (logCleared n) h i r z = refl
 
 -- ---- 'A register bit stands if an event raised it unhidden and no clear of it (error bit 0: nor clock setting) came later'
-pub stands-split : (s : Register) (b : ℕ) (h : History) → (stands s b h ≡ true) ↔ Ongoing (raises s b) (λ e h. clears s b e) h
+pub stands-split : (s : WhichRegister) (b : ℕ) (h : History) → (stands s b h ≡ true) ↔ Ongoing (raises s b) (λ e h. clears s b e) h
 unfolding stands
 stands-split s b = ongoing-split (raises s b) (λ e h. clears s b e) (stands s b) refl (λ e h. refl)
 
@@ -258,12 +258,12 @@ pub owed-cleared : (f : Fresh) (n : ℕ) (before : History) → owed f n (logCle
 unfolding owed
 owed-cleared f n before = rw (eq-eqb n n refl)
 
-owed-more : (f : Fresh) (n : ℕ) (later before : History) → NotCleared n later before → owed f n (later ++ before) ≡ owed f n before ++ linesOf f n later before
-unfolding owed linesOf
+owed-more : (f : Fresh) (n : ℕ) (later before : History) → NotCleared n later before → owed f n (later ++ before) ≡ owed f n before ++ owedBetween f n later before
+unfolding owed owedBetween
 owed-more f n [] before c = sym (append-nil (owed f n before))
 owed-more f n (e ∷ later) before c =
     rw (clears-not n e (each-first c), owed-more f n later before (each-rest c))
-    (append-assoc (owed f n before) (linesOf f n later before) (owedBy f n e (later ++ before)))
+    (append-assoc (owed f n before) (owedBetween f n later before) (owedBy f n e (later ++ before)))
 
 abbrev clearing : ℕ → Effect → History → Option Bool
 clearing n e h = given (clearsLog n e) true
@@ -279,10 +279,10 @@ pub owed-split : (f : Fresh) (n : ℕ) (h : History) (ls : List Line) → (owed 
 unfolding owed
 owed-split f n h ls = (λ e. subst (OwedSince f n h) e (go (latest-or-none (clearing n) h)), from)
   where
-    after : (later before : History) → h ≡ later ++ (logCleared n ∷ before) → NotCleared n later (logCleared n ∷ before) → owed f n h ≡ line (clockOf f (logCleared n ∷ before)) 255 ∷ linesOf f n later (logCleared n ∷ before)
+    after : (later before : History) → h ≡ later ++ (logCleared n ∷ before) → NotCleared n later (logCleared n ∷ before) → owed f n h ≡ line (clockOf f (logCleared n ∷ before)) 255 ∷ owedBetween f n later (logCleared n ∷ before)
     after later before s c = ap (owed f n) s ∙ owed-more f n later (logCleared n ∷ before) c ∙ rw (owed-cleared f n before)
 
-    ever : NotCleared n h [] → owed f n h ≡ linesOf f n h []
+    ever : NotCleared n h [] → owed f n h ≡ owedBetween f n h []
     ever c = ap (owed f n) (sym (append-nil h)) ∙ owed-more f n h [] c
 
     from : OwedSince f n h ls → owed f n h ≡ ls

@@ -6,7 +6,7 @@ use lib.Dec.{eqb}
 use lib.IntN.{ℤ}
 use Rattle.base.specs.Numbers.{held}
 use Rattle.events.specs.Line.{Line}
-use Rattle.events.specs.Table.{Row}
+use Rattle.events.specs.Table.{EventRow}
 use Rattle.calls.specs.declared.Call.{Call}
 use Rattle.history.specs.Effects.{Fresh, alarms, errors, Reading, refused, accepted, reading}
 use Rattle.history.specs.Last.{History, modeOf, limitsOf, filterOf, clockOf}
@@ -38,13 +38,13 @@ grown (refused n) h = h
 grown (accepted e) h = e ∷ h
 
 -- the accepted calls of a list of calls, both newest first
-unfoldable pub acceptedCalls : List Row → Fresh → List Call → History
+unfoldable pub acceptedCalls : List EventRow → Fresh → List Call → History
 acceptedCalls rows f [] = []
 acceptedCalls rows f (c ∷ cs) =
     grown (reading rows (modeOf f (acceptedCalls rows f cs)) c) (acceptedCalls rows f cs)
 
 -- the switch after a list of calls, newest first
-abbrev pub switchAfter : List Row → Fresh → List Call → ℕ
+abbrev pub switchAfter : List EventRow → Fresh → List Call → ℕ
 switchAfter rows f cs = switchOf f (acceptedCalls rows f cs)
 
 -- the switch goes from 1 to another position
@@ -52,7 +52,7 @@ abbrev pub opens : ℕ → ℕ → Bool
 opens before after = eqb before 1 && not (eqb after 1)
 
 -- 'Openings: prefixes with switch 1 whose next call gives another ..' (held in the account)
-unfoldable pub openings : List Row → Fresh → List Call → ℕ
+unfoldable pub openings : List EventRow → Fresh → List Call → ℕ
 openings rows f [] = 0
 openings rows f (c ∷ cs) =
     cond (opens (switchAfter rows f cs) (switchAfter rows f (c ∷ cs))) (suc (openings rows f cs)) (openings rows f cs)
@@ -78,9 +78,9 @@ accountOf f h n =
     }
 
 -- the account of a list of calls, newest first
-abbrev pub accountAfter : List Row → Fresh → List Call → Account
+abbrev pub accountAfter : List EventRow → Fresh → List Call → Account
 accountAfter rows f cs = accountOf f (acceptedCalls rows f cs) (openings rows f cs)
 
 -- 'Drawn from the list and its fresh settings ..': the list in the order of its calls
-abbrev pub account : List Row → Fresh → List Call → Account
+abbrev pub account : List EventRow → Fresh → List Call → Account
 account rows f calls = accountAfter rows f (reverse calls)

@@ -8,7 +8,7 @@ use lib.IntN.{ℤ, pos}
 use lib.Signed.{leZ}
 use Rattle.base.specs.Tests.{within, among}
 use Rattle.events.specs.Line.{isLog}
-use Rattle.events.specs.Table.{Row, lookup}
+use Rattle.events.specs.Table.{EventRow, lookup}
 use Rattle.calls.specs.declared.Call.{Call}
 use Rattle.calls.specs.declared.Call.the-variants.{Sample, RemoteDisconnect, RemoteReconnect, ManualDisconnect, ManualReconnect, SetMode, SetLimiter, SetClock, Event, SetAlarmFilter, SetErrorFilter, ClearAlarms, ClearErrors, ClearLog, Script}
 
@@ -21,23 +21,23 @@ pub record Fresh : Type 0 where
   pub clock : ℕ
 
 -- calls 2 to 5
-pub data Request : Type 0 where
-  remoteDisconnect remoteReconnect manualDisconnect manualReconnect : Request
+pub data RequestCall : Type 0 where
+  remoteDisconnect remoteReconnect manualDisconnect manualReconnect : RequestCall
 
 -- 'Alarm and error register ..'
-pub data Register : Type 0 where
-  alarms errors : Register
+pub data WhichRegister : Type 0 where
+  alarms errors : WhichRegister
 
 -- an accepted call; 'Scripts are the calls they name'
 pub data Effect : Type 0 where
   sampled : ℤ → Effect
-  requested : Request → Effect
+  requested : RequestCall → Effect
   modeSet : ℕ → Effect
   limitsSet : ℤ → ℕ → ℕ → Effect
   clockSet : ℕ → Effect
-  occurred : Row → Effect
-  filterSet : Register → ℕ → Effect
-  bitsCleared : Register → ℕ → Effect
+  occurred : EventRow → Effect
+  filterSet : WhichRegister → ℕ → Effect
+  bitsCleared : WhichRegister → ℕ → Effect
   logCleared : ℕ → Effect
 
 -- a call as it is answered: with a refusal's number, or accepted
@@ -46,14 +46,14 @@ pub data Reading : Type 0 where
   accepted : Effect → Reading
 
 -- the modes that the switch table lists for a request
-abbrev pub listedModes : Request → List ℕ
+abbrev pub listedModes : RequestCall → List ℕ
 listedModes remoteDisconnect = 1 ∷ 2 ∷ 3 ∷ 4 ∷ 5 ∷ 6 ∷ []
 listedModes remoteReconnect = 1 ∷ 2 ∷ 3 ∷ 4 ∷ 5 ∷ 6 ∷ []
 listedModes manualDisconnect = 1 ∷ 2 ∷ 5 ∷ []
 listedModes manualReconnect = 1 ∷ 2 ∷ 3 ∷ 4 ∷ 5 ∷ 6 ∷ []
 
 -- 'mode rule | 2 | .. mode not in the switch table for that request'
-abbrev pub readRequest : ℕ → Request → Reading
+abbrev pub readRequest : ℕ → RequestCall → Reading
 readRequest m q = cond (among (listedModes q) m) (accepted (requested q)) (refused 2)
 
 -- '.. call 7 | 4 | threshold negative', '.. call 7 | 5 | Over or Under out of range'
@@ -62,12 +62,12 @@ readLimits t o u =
     cond (leZ (pos 0) t) (cond (within 1 86400 o && within 1 86400 u) (accepted (limitsSet t o u)) (refused 5)) (refused 4)
 
 -- 'call 9 | 6 | code not listed'
-abbrev pub readEvent : Option Row → Reading
+abbrev pub readEvent : Option EventRow → Reading
 readEvent none = refused 6
 readEvent (some r) = accepted (occurred r)
 
 -- '.. a call's refusal follows from its numbers and the mode last accepted' (and the event table)
-unfoldable pub reading : List Row → ℕ → Call → Reading
+unfoldable pub reading : List EventRow → ℕ → Call → Reading
 reading rows m (Sample p) = accepted (sampled p)
 reading rows m RemoteDisconnect = readRequest m remoteDisconnect
 reading rows m RemoteReconnect = readRequest m remoteReconnect

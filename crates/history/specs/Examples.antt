@@ -24,9 +24,9 @@ abbrev pub fresh : ℕ → ℕ → ℕ → ℕ → ℕ → Fresh
 fresh m t o u c = record { mode = m; threshold = pos t; over = o; under = u; clock = c }
 
 -- the account by the built-in table; to unfold it is to unfold what it is made of
-unfoldable pub after : Fresh → List Call → Account
+unfoldable pub builtInAccount : Fresh → List Call → Account
 unfolding among bit number newest builtIn lookup reading last samplesSince observations duration sinceSetting allAre exceeded trailing spell switchOf stands owed acceptedCalls openings
-after f calls = account builtIn f calls
+builtInAccount f calls = account builtIn f calls
 
 -- '.. refusal or 0 ..'
 abbrev pub refusal : Reading → ℕ
@@ -35,34 +35,34 @@ refusal (accepted e) = 0
 
 -- the refusal of a call by the mode last accepted before it
 abbrev pub answer : Fresh → List Call → Call → ℕ
-answer f calls c = refusal (reading builtIn (after f calls .mode) c)
+answer f calls c = refusal (reading builtIn (builtInAccount f calls .mode) c)
 
 -- the codes of lines
 abbrev pub codes : List Line → List ℕ
 codes ls = map (λ l. l .code) ls
 
 -- 'Fresh (5, 3000, 2, 3, 1000) ..'
-abbrev pub bench : Fresh
-bench = fresh 5 3000 2 3 1000
+abbrev pub exampleSettings : Fresh
+exampleSettings = fresh 5 3000 2 3 1000
 
 -- '.. samples 3000, 3001, 3001; call 5; samples 0, −5, 0; call 2; call 5; script 3; script 2; mode 7; mode 0; call 2 ..'
-abbrev pub benchCalls : List Call
-benchCalls =
+abbrev pub exampleCalls : List Call
+exampleCalls =
     Sample (pos 3000) ∷ Sample (pos 3001) ∷ Sample (pos 3001) ∷ ManualReconnect ∷ Sample (pos 0) ∷ Sample (negsuc 4) ∷ Sample (pos 0)
     ∷ RemoteDisconnect ∷ ManualReconnect ∷ Script 3 ∷ Script 2 ∷ SetMode 7 ∷ SetMode 0 ∷ RemoteDisconnect ∷ []
 
 -- 'Per record a line: position from 1, refusal or 0, switch, openings'
-abbrev pub listing : Fresh → List Call → List Call → List (ℕ × ℕ × ℕ × ℕ)
-listing f calls [] = []
-listing f calls (c ∷ cs) =
+abbrev pub accountListing : Fresh → List Call → List Call → List (ℕ × ℕ × ℕ × ℕ)
+accountListing f calls [] = []
+accountListing f calls (c ∷ cs) =
     let all = calls ++ (c ∷ []) in
-    (length all + 1, answer f calls c, after f all .switch, after f all .openings) ∷ listing f all cs
+    (length all + 1, answer f calls c, builtInAccount f all .switch, builtInAccount f all .openings) ∷ accountListing f all cs
 
 -- 'The bench program': its example, and what follows it, 'To be proved of the definitions as one table ..'
 pub record WorkedExample : Type 0 where
   -- '.. print: 1 0 1 0 ..'
   pub prints :
-      (1, 0, after bench [] .switch, after bench [] .openings) ∷ listing bench [] benchCalls
+      (1, 0, builtInAccount exampleSettings [] .switch, builtInAccount exampleSettings [] .openings) ∷ accountListing exampleSettings [] exampleCalls
       ≡ (1, 0, 1, 0)
       ∷ (2, 0, 1, 0)
       ∷ (3, 0, 1, 0)
@@ -81,19 +81,19 @@ pub record WorkedExample : Type 0 where
       ∷ []
   -- 'Log 3 then: 65, 64, 61 at 1003; 66, 62, 59, 63 at 1006'
   pub logsThen :
-      after bench benchCalls .logs
+      builtInAccount exampleSettings exampleCalls .logs
       ≡ []
       ∷ []
       ∷ (line 1003 65 ∷ line 1003 64 ∷ line 1003 61 ∷ line 1006 66 ∷ line 1006 62 ∷ line 1006 59 ∷ line 1006 63 ∷ [])
       ∷ []
   -- '.. power −2,147,483,648 is not over 0 ..'
-  pub lowestPower : after (fresh 6 0 1 1 1000) (Sample (negsuc 2147483647) ∷ []) .exceeded ≡ false
+  pub lowestPower : builtInAccount (fresh 6 0 1 1 1000) (Sample (negsuc 2147483647) ∷ []) .exceeded ≡ false
   -- '.. Over 86,400 taken, 86,401 refused ..'
   pub longestOver :
       map (answer (fresh 3 0 1 1 0) []) (SetLimiter (pos 0) 86400 1 ∷ SetLimiter (pos 0) 86401 1 ∷ [])
       ≡ 0 ∷ 5 ∷ []
   -- '.. the 33rd line drops the first'
   pub thirtyThirdLine :
-      map (λ calls. codes (getD (after (fresh 1 3 1 1 1000) calls .logs) 0 []))
+      map (λ calls. codes (getD (builtInAccount (fresh 1 3 1 1 1000) calls .logs) 0 []))
       ((Event 2 ∷ replicate 31 (Event 1)) ∷ (Event 2 ∷ Event 8 ∷ replicate 31 (Event 1)) ∷ [])
       ≡ (2 ∷ replicate 31 1) ∷ (8 ∷ replicate 31 1) ∷ []

@@ -5,7 +5,7 @@ use mathlib.Core.List.{List, [], _∷_}
 use mathlib.Core.Option.{Option, none, some}
 use lib.IntN.{ℤ}
 use Rattle.base.specs.Numbers.{held}
-use Rattle.history.specs.Effects.{Fresh, Register, alarms, errors, Effect, sampled, requested, modeSet, limitsSet, clockSet, occurred, filterSet, bitsCleared, logCleared}
+use Rattle.history.specs.Effects.{Fresh, WhichRegister, alarms, errors, Effect, sampled, requested, modeSet, limitsSet, clockSet, occurred, filterSet, bitsCleared, logCleared}
 
 -- accepted calls, the newest first
 abbrev pub History : Type 0
@@ -64,14 +64,14 @@ abbrev pub limitsOf : Fresh → History → Limits
 limitsOf f h = last limitsIn (limits (f .threshold) (f .over) (f .under)) h
 
 -- a, if the two registers are the same
-abbrev pub ofRegister : {A : Type 0} → Register → Register → A → Option A
+abbrev pub ofRegister : {A : Type 0} → WhichRegister → WhichRegister → A → Option A
 ofRegister alarms alarms a = some a
 ofRegister alarms errors a = none
 ofRegister errors alarms a = none
 ofRegister errors errors a = some a
 
 -- the filter that a call sets for a register: 'Set alarm, error filter'
-abbrev pub filterIn : Register → Effect → History → Option ℕ
+abbrev pub filterIn : WhichRegister → Effect → History → Option ℕ
 filterIn s (sampled p) h = none
 filterIn s (requested q) h = none
 filterIn s (modeSet n) h = none
@@ -83,7 +83,7 @@ filterIn s (bitsCleared s′ n) h = none
 filterIn s (logCleared n) h = none
 
 -- '.. filters: last accepted, else .. (filters 0)'
-abbrev pub filterOf : Register → History → ℕ
+abbrev pub filterOf : WhichRegister → History → ℕ
 filterOf s h = last (filterIn s) 0 h
 
 -- the clock that a call sets

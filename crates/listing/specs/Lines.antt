@@ -3,13 +3,13 @@ use mathlib.Core.List.{List, [], _∷_, _++_}
 use Prim.Native.Nat.{ℕ, _+_}
 use lib.ListN.{drop}
 use Rattle.meter.specs.declared.Meter.{Meter}
-use Rattle.replay.specs.declared.Line.{Line}
+use Rattle.replay.specs.declared.ListingLine.{ListingLine}
 use Rattle.replay.specs.declared.Record.{Record}
 use Rattle.replay.specs.Replay.{recordsFrom, nextOf}
 use Rattle.replay.specs.Listing.{lineOf}
 
 -- the bytes of a line
-abbrev pub shown : Line → List ℕ
+abbrev pub shown : ListingLine → List ℕ
 shown line = drop (line .start) (line .bytes)
 
 -- 'Per record a line': those of records on a meter, the first of them at a position

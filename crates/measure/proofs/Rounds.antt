@@ -16,10 +16,10 @@ use Rattle.meter.specs.declared.Meter.{Meter}
 use Rattle.meter.specs.declared.Outcome.{Outcome}
 use Rattle.page.specs.Layout.{writeAnswer, written, readOf}
 use Rattle.replay.specs.declared.Record.{Record}
-use Rattle.replay.specs.Replay.{recordsFrom, runFrom}
-use Rattle.measure.specs.Rounds.{roundsFrom, callsAnswer, callsPage, passing, inRound, writtenRounds, pageInRound, pageAfter}
+use Rattle.replay.specs.Replay.{recordsFrom, meterAfter}
+use Rattle.measure.specs.Rounds.{roundsFrom, callsAnswer, callsPage, passing, inRound, writtenRounds, pageInRound, pageAfterRounds}
 
-pub next-round : (n : ℕ) (m : Meter) (rs : List Record) → 0 < n → roundsFrom (n - 1) (runFrom m rs) rs ≡ roundsFrom n m rs
+pub next-round : (n : ℕ) (m : Meter) (rs : List Record) → 0 < n → roundsFrom (n - 1) (meterAfter m rs) rs ≡ roundsFrom n m rs
 unfolding roundsFrom
 next-round n m rs h =
     let one : n ≡ suc (n - 1) = omega arith in
@@ -80,8 +80,8 @@ unfolding writeAnswer
 answer-by-length m s t e = rw e
 
 -- the round before has changed that byte alone
-pub next-page : (page : List ℕ) (n : ℕ) → pageInRound (pageAfter page n) n ≡ pageInRound page n
-unfolding pageAfter
+pub next-page : (page : List ℕ) (n : ℕ) → pageInRound (pageAfterRounds page n) n ≡ pageInRound page n
+unfolding pageAfterRounds
 next-page page zero = refl
 next-page page (suc n) = go (ltb 58 (length page)) refl
   where
@@ -89,6 +89,6 @@ next-page page (suc n) = go (ltb 58 (length page)) refl
     go true e = rw (e, length-set, e, set-set)
     go false e = rw (e, e)
 
-pub after-round : (page : List ℕ) (n : ℕ) → pageInRound page n ≡ pageAfter page (n + 1)
-unfolding pageAfter
+pub after-round : (page : List ℕ) (n : ℕ) → pageInRound page n ≡ pageAfterRounds page (n + 1)
+unfolding pageAfterRounds
 after-round page n = rw (add-one n)

@@ -12,14 +12,14 @@ use Rattle.meter.specs.declared.Meter.{Meter}
 use Rattle.meter.specs.Sound.{soundMeter}
 use Rattle.page.specs.Layout.{writeAnswer, written, readOf}
 use Rattle.replay.specs.declared.Record.{Record}
-use Rattle.replay.specs.Replay.{recordsFrom, runFrom}
+use Rattle.replay.specs.Replay.{recordsFrom, meterAfter}
 
 -- ---- rounds of calls
 
 -- the meter after n rounds of all the records
 unfoldable pub roundsFrom : ℕ → Meter → List Record → Meter
 roundsFrom zero m rs = m
-roundsFrom (suc n) m rs = roundsFrom n (runFrom m rs) rs
+roundsFrom (suc n) m rs = roundsFrom n (meterAfter m rs) rs
 
 -- the reader's refusal, else the number of what the writer answers to the meter m
 abbrev pub answerBehind : Answer → Meter → List ℕ → ℕ
@@ -77,6 +77,6 @@ abbrev pub readRounds : List ℕ → ℕ → ℕ
 readRounds page n = passing n (λ i. isAccepted (readOf (pageInRound page i) .answer))
 
 -- and the page after the last round
-unfoldable pub pageAfter : List ℕ → ℕ → List ℕ
-pageAfter page zero = page
-pageAfter page (suc n) = pageInRound page n
+unfoldable pub pageAfterRounds : List ℕ → ℕ → List ℕ
+pageAfterRounds page zero = page
+pageAfterRounds page (suc n) = pageInRound page n

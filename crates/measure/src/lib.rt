@@ -5,7 +5,7 @@
 ghost use mathlib.Core.Path.{_≡_};
 ghost use mathlib.Core.Bool.{cond};
 ghost use Rattle.page.specs.Layout.{readOf};
-ghost use Rattle.measure.specs.Rounds.{callsAnswer, callsPage, soundRounds, writeRounds, writtenRounds, pageInRound, readRounds, pageAfter};
+ghost use Rattle.measure.specs.Rounds.{callsAnswer, callsPage, soundRounds, writeRounds, writtenRounds, pageInRound, readRounds, pageAfterRounds};
 use calls::Answer;
 
 // What a round adds to a count.
@@ -83,7 +83,7 @@ fn count_round(page: &mut [u8], round: u32)
 // counts the rounds.
 #[no_mangle]
 pub extern "C" fn measure_read(page: &mut [u8], rounds: u32) -> u32
-    ensures { λ r. ⌜ (r ≡ readRounds (now (page .entry)) rounds) × (now (page .exit) ≡ pageAfter (now (page .entry)) rounds) ⌝ }
+    ensures { λ r. ⌜ (r ≡ readRounds (now (page .entry)) rounds) × (now (page .exit) ≡ pageAfterRounds (now (page .entry)) rounds) ⌝ }
 {
     let mut accepted = 0;
     for round in 0..rounds {

@@ -12,16 +12,16 @@ use lib.Signed.{leZ}
 use Rattle.base.specs.Tests.{within, among, every}
 use Rattle.base.proofs.Bools.{and-left, and-right}
 use Rattle.events.specs.Line.{Line, isLog}
-use Rattle.events.specs.Table.{Row, lookup, lawful}
+use Rattle.events.specs.Table.{EventRow, lookup, lawful}
 use Rattle.events.proofs.Rule.{row-passes}
 use Rattle.control.specs.declared.Request.{Request as ControlRequest}
 use Rattle.control.specs.declared.Request.the-variants as request
 use Rattle.control.specs.declared.Decision.{Decision}
 use Rattle.control.specs.declared.Decision.the-variants.{Move, Stay, NotListed}
-use Rattle.control.specs.Table.{Row as SwitchRow, switchTable}
+use Rattle.control.specs.Table.{SwitchRow as SwitchRow, switchTable}
 use Rattle.control.specs.Control.{lists, orStay, decision, modeDecision, inMode}
 use Rattle.limiter.specs.declared.Watched.{Watched}
-use Rattle.limiter.specs.Limiter.{sampled as watchedSample}
+use Rattle.limiter.specs.Limiter.{sampledPower as watchedSample}
 use Rattle.logs.specs.Lists.{changed}
 use Rattle.calls.specs.declared.Call.{Call}
 use Rattle.calls.specs.declared.Call.the-variants.{Sample, RemoteDisconnect, RemoteReconnect, ManualDisconnect, ManualReconnect, SetMode, SetLimiter, SetClock, Event, SetAlarmFilter, SetErrorFilter, ClearAlarms, ClearErrors, ClearLog, Script}
@@ -30,13 +30,13 @@ use Rattle.calls.specs.declared.Answer.the-variants.{Accepted, Refused}
 use Rattle.calls.specs.declared.Parsed.{Parsed}
 use Rattle.calls.specs.declared.Parsed.the-variants.{Ok, NoKind}
 use Rattle.calls.specs.Calls.{callOf, InRange}
-use Rattle.history.specs.Effects.{Request, remoteDisconnect, remoteReconnect, manualDisconnect, manualReconnect, alarms, errors, Effect, sampled, requested, modeSet, limitsSet, clockSet, occurred, filterSet, bitsCleared, logCleared, listedModes, Reading, refused, accepted, readRequest, readLimits, readEvent, reading}
+use Rattle.history.specs.Effects.{RequestCall, remoteDisconnect, remoteReconnect, manualDisconnect, manualReconnect, alarms, errors, Effect, sampled, requested, modeSet, limitsSet, clockSet, occurred, filterSet, bitsCleared, logCleared, listedModes, Reading, refused, accepted, readRequest, readLimits, readEvent, reading}
 use Rattle.meter.specs.declared.Meter.{Meter}
 use Rattle.meter.specs.declared.Outcome.{Outcome}
 use Rattle.meter.specs.declared.step.Scalars.{Scalars}
 use Rattle.meter.specs.State.{State, stateOf, scalarsOf, recordOf, withControl}
 use Rattle.meter.specs.Sound.{soundMeter, soundState}
-use Rattle.meter.specs.Machine.{Result, refusing, making, moving, decided, answering, requestResult, modeResult, limiterResult, occurring, eventResult, clearLogResult, scriptResult, result, after, carriedOut, applied, performed, commanded}
+use Rattle.meter.specs.Machine.{Result, refusing, making, moving, decided, answering, requestResult, modeResult, limiterResult, occurring, eventResult, clearLogResult, scriptResult, result, valuesAfter, carriedOut, applied, performed, commanded}
 use Rattle.meter.specs.Laws.{answerOf}
 use Rattle.meter.proofs.Values.{state-of-record, record-sound}
 use Rattle.meter.proofs.Effects.{requestOf, effectResult, readResult, Proper}
@@ -89,7 +89,7 @@ shared false false false false true f = refl
 shared false false false false false true = refl
 shared false false false false false false = refl
 
-table-lists : (q : Request) (m : ℕ) → listedBy switchTable (requestOf q) m ≡ among (listedModes q) m
+table-lists : (q : RequestCall) (m : ℕ) → listedBy switchTable (requestOf q) m ≡ among (listedModes q) m
 unfolding switchTable among
 table-lists remoteDisconnect m = same-modes (among (listedModes remoteDisconnect) m)
 table-lists remoteReconnect m = shared (eqb m 1) (eqb m 2) (eqb m 3) (eqb m 4) (eqb m 5) (eqb m 6)
@@ -97,7 +97,7 @@ table-lists manualDisconnect m = or-false (among (listedModes manualDisconnect) 
 table-lists manualReconnect m = or-false (among (listedModes manualReconnect) m)
 
 module _ (s : Scalars) where
-  request-read : (q : Request) → requestResult s (requestOf q) ≡ readResult s (readRequest (s .control .mode) q)
+  request-read : (q : RequestCall) → requestResult s (requestOf q) ≡ readResult s (readRequest (s .control .mode) q)
   unfolding requestResult
   request-read q =
       go (decided s (requestOf q)) (among (listedModes q) (s .control .mode)) refl
@@ -116,12 +116,12 @@ module _ (s : Scalars) where
   read-cond true x y = refl
   read-cond false x y = refl
 
-  event-read : (o : Option Row) → occurring s o ≡ readResult s (readEvent o)
+  event-read : (o : Option EventRow) → occurring s o ≡ readResult s (readEvent o)
   event-read none = refl
   event-read (some r) = refl
 
 -- a call does what its reading says: for any scalars, sound or not
-pub by-reading : (rows : List Row) (s : Scalars) (c : Call) → result rows s c ≡ readResult s (reading rows (s .control .mode) c)
+pub by-reading : (rows : List EventRow) (s : Scalars) (c : Call) → result rows s c ≡ readResult s (reading rows (s .control .mode) c)
 unfolding reading modeResult limiterResult eventResult clearLogResult scriptResult
 by-reading rows s (Sample p) = refl
 by-reading rows s RemoteDisconnect = request-read s remoteDisconnect
@@ -144,7 +144,7 @@ read-answer : (m : Meter) (x : Reading) → carriedOut m (readResult (scalarsOf 
 read-answer m (refused n) = refl
 read-answer m (accepted e) = refl
 
-module _ (rows : List Row) (m : Meter) (c : Call) where
+module _ (rows : List EventRow) (m : Meter) (c : Call) where
   pub applied-answer : soundMeter rows m ≡ true → applied rows m c .answer ≡ answerOf (reading rows (m .control .mode) c)
   unfolding applied
   applied-answer e = rw (e, by-reading rows (scalarsOf m) c) (read-answer m (reading rows (m .control .mode) c))
@@ -158,7 +158,7 @@ kept-same : (m : Meter) (r : Result) (n : ℕ) → carriedOut m r .answer ≡ Re
 kept-same m (refusing k) n h = refl
 kept-same m (making k) n h = cc
 
-module _ (rows : List Row) (m : Meter) where
+module _ (rows : List EventRow) (m : Meter) where
   pub refused-same : (c : Call) (n : ℕ) → applied rows m c .answer ≡ Refused n → applied rows m c .meter ≡ m
   unfolding applied
   refused-same c n =
@@ -175,24 +175,24 @@ module _ (rows : List Row) (m : Meter) where
 -- ---- the values after a result, and the machine on a laid-out record
 abbrev pub afterResult : State → Result → State
 afterResult v (refusing n) = v
-afterResult v (making k) = after v k
+afterResult v (making k) = valuesAfter v k
 
-pub applied-state : (rows : List Row) (v : State) → soundState rows v ≡ true → (c : Call)
+pub applied-state : (rows : List EventRow) (v : State) → soundState rows v ≡ true → (c : Call)
     → applied rows (recordOf v) c .meter ≡ recordOf (afterResult v (result rows (v .scalars) c))
 unfolding applied
 applied-state rows v e c = rw (record-sound rows v e) (go (result rows (v .scalars) c))
   where
     go : (r : Result) → carriedOut (recordOf v) r .meter ≡ recordOf (afterResult v r)
     go (refusing n) = refl
-    go (making k) = ap (λ (w : State). recordOf (after w k)) (state-of-record rows v e)
+    go (making k) = ap (λ (w : State). recordOf (valuesAfter w k)) (state-of-record rows v e)
 
 -- ---- what an accepted call asks for is proper
 abbrev ProperReading : ℕ → Reading → Type 0
 ProperReading m (refused n) = Unit
 ProperReading m (accepted e) = Proper m e
 
-module _ (rows : List Row) (all : every lawful rows ≡ true) (m : ℕ) where
-  request-proper : (q : Request) → ProperReading m (readRequest m q)
+module _ (rows : List EventRow) (all : every lawful rows ≡ true) (m : ℕ) where
+  request-proper : (q : RequestCall) → ProperReading m (readRequest m q)
   request-proper q = either (ProperReading m) (among (listedModes q) m) (λ e. e) (λ e. tt)
 
   limits-proper : (t : ℤ) (o u : ℕ) → ProperReading m (readLimits t o u)
@@ -203,7 +203,7 @@ module _ (rows : List Row) (all : every lawful rows ≡ true) (m : ℕ) where
       (λ f. tt))
       (λ e. tt)
 
-  event-proper : (c : ℕ) (o : Option Row) → lookup rows c ≡ o → ProperReading m (readEvent o)
+  event-proper : (c : ℕ) (o : Option EventRow) → lookup rows c ≡ o → ProperReading m (readEvent o)
   event-proper c none e = tt
   event-proper c (some r) e = row-passes lawful rows c r e all
 

@@ -18,7 +18,7 @@ use Rattle.control.specs.Control.{modeDecision, inMode}
 use Rattle.limiter.specs.declared.Limiter.{Limiter}
 use Rattle.limiter.specs.Limiter.{withSettings}
 use Rattle.calls.specs.Calls.{Word}
-use Rattle.history.specs.Effects.{Fresh, Request, remoteDisconnect, remoteReconnect, manualDisconnect, manualReconnect, Register, alarms, errors, Effect, sampled, requested, modeSet, limitsSet, clockSet, occurred, filterSet, bitsCleared, logCleared, listedModes, Reading, refused, accepted}
+use Rattle.history.specs.Effects.{Fresh, RequestCall, remoteDisconnect, remoteReconnect, manualDisconnect, manualReconnect, WhichRegister, alarms, errors, Effect, sampled, requested, modeSet, limitsSet, clockSet, occurred, filterSet, bitsCleared, logCleared, listedModes, Reading, refused, accepted}
 use Rattle.history.specs.Last.{History, modeOf, limitsOf, filterOf, clockOf}
 use Rattle.history.specs.Limiter.{exceededOf, runOf}
 use Rattle.history.specs.Switch.{switchOf}
@@ -28,7 +28,7 @@ use Rattle.meter.specs.declared.step.Scalars.{Scalars}
 use Rattle.meter.specs.State.{withControl, withLimiter, withAlarms, withErrors}
 use Rattle.meter.specs.Machine.{Change, Result, refusing, making, owing, lineNow, moving, decided, sampleResult, clockResult, reported}
 
-abbrev pub requestOf : Request → ControlRequest
+abbrev pub requestOf : RequestCall → ControlRequest
 requestOf remoteDisconnect = request.RemoteDisconnect
 requestOf remoteReconnect = request.RemoteReconnect
 requestOf manualDisconnect = request.ManualDisconnect
@@ -71,11 +71,11 @@ pub data AllProper (f : Fresh) : History → Type 0 where
   more : {e : Effect} {h : History} → Proper (modeOf f h) e → AllProper f h → AllProper f (e ∷ h)
 
 -- the parts of the values that the account of a history names; n is the number of openings
-abbrev pub controlOf : Fresh → History → ℕ → Control
-controlOf f h n = record { mode = modeOf f h; state = switchOf f h; openings = n }
+abbrev pub heldControl : Fresh → History → ℕ → Control
+heldControl f h n = record { mode = modeOf f h; state = switchOf f h; openings = n }
 
-abbrev pub limiterOf : Fresh → History → Limiter
-limiterOf f h =
+abbrev pub heldLimiter : Fresh → History → Limiter
+heldLimiter f h =
     record {
       threshold = limitsOf f h .threshold;
       over = limitsOf f h .over;
@@ -84,14 +84,14 @@ limiterOf f h =
       run = runOf f h;
     }
 
-abbrev pub registerOf : Register → History → RegisterOf
+abbrev pub registerOf : WhichRegister → History → RegisterOf
 registerOf s h = record { bits = bitsOf s h; filter = filterOf s h }
 
-abbrev pub scalarsOf : Fresh → History → ℕ → Scalars
-scalarsOf f h n =
+abbrev pub heldScalars : Fresh → History → ℕ → Scalars
+heldScalars f h n =
     record {
-      control = controlOf f h n;
-      limiter = limiterOf f h;
+      control = heldControl f h n;
+      limiter = heldLimiter f h;
       clock = clockOf f h;
       alarms = registerOf alarms h;
       errors = registerOf errors h;

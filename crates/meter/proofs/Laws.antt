@@ -4,15 +4,15 @@ use mathlib.Core.Path.{_≡_}
 use mathlib.Core.Bool.{true}
 use mathlib.Core.List.{List, [], _∷_, reverse, reverseAux}
 use Rattle.base.specs.Tests.{every}
-use Rattle.events.specs.Table.{Row, builtIn, lawful}
+use Rattle.events.specs.Table.{EventRow, builtIn, lawful}
 use Rattle.events.proofs.Rule.{built-in-lawful}
 use Rattle.calls.specs.declared.Call.{Call}
 use Rattle.calls.specs.Calls.{AllInRange}
-use Rattle.meter.specs.Laws.{Laws}
+use Rattle.meter.specs.Laws.{LawsOf, Laws}
 use Rattle.meter.proofs.Values.{record-of-state, state-of-record}
 use Rattle.meter.proofs.Answers.{applied-answer, refused-same, commanded-same}
 use Rattle.meter.proofs.Tail.{in-parts, command-in-parts}
-use Rattle.meter.proofs.Preserved.{applied-sound, run-sound}
+use Rattle.meter.proofs.Preserved.{applied-sound, reached-sound}
 use Rattle.meter.proofs.Simulates.{simulates}
 
 -- the calls of a list are in range in either order
@@ -20,8 +20,8 @@ pub turned : (xs ys : List Call) → AllInRange xs → AllInRange ys → AllInRa
 turned [] ys i k = k
 turned (c ∷ xs) ys i k = turned xs (c ∷ ys) (i .1) (i .0, k)
 
-pub laws : (rows : List Row) → every lawful rows ≡ true → Laws rows
-laws rows table =
+laws-of : (rows : List EventRow) → every lawful rows ≡ true → LawsOf rows
+laws-of rows table =
     record {
       record-of-state = record-of-state rows;
       state-of-record = state-of-record rows;
@@ -31,10 +31,13 @@ laws rows table =
       answers = applied-answer rows;
       refused-same = refused-same rows;
       command-refused-same = commanded-same rows;
-      reached-sound = λ f calls t i. run-sound rows table f t (reverse calls) (turned calls [] i tt);
-      simulates = λ f calls t i. simulates rows table f t (reverse calls) (turned calls [] i tt);
+      reached-sound = reached-sound rows table;
+      simulates = λ f calls t i. simulates rows table f t calls i;
     }
 
 -- of the meter with the table of document 01
-pub built-in : Laws builtIn
-built-in = laws builtIn built-in-lawful
+pub built-in : LawsOf builtIn
+built-in = laws-of builtIn built-in-lawful
+
+pub laws : Laws
+laws = (built-in-lawful, laws-of)

@@ -15,3 +15,4 @@ pub mod Laws
 pub mod Steps
 pub mod Tail
 pub mod Accepting
+pub mod Examples

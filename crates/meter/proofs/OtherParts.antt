@@ -11,7 +11,7 @@ use Rattle.control.specs.declared.Decision.the-variants.{Move, Stay, NotListed}
 use Rattle.control.specs.declared.Request.the-variants as request
 use Rattle.control.specs.Control.{modeDecision, inMode}
 use Rattle.limiter.specs.declared.Watched.{Watched}
-use Rattle.limiter.specs.Limiter.{sampled as watchedSample}
+use Rattle.limiter.specs.Limiter.{sampledPower as watchedSample}
 use Rattle.history.specs.Effects.{Effect, sampled, requested, modeSet, limitsSet, clockSet, occurred, filterSet, bitsCleared, logCleared}
 use Rattle.meter.specs.declared.step.Scalars.{Scalars}
 use Rattle.meter.specs.State.{withControl, withLimiter, withClock}

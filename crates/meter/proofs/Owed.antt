@@ -17,7 +17,7 @@ use Rattle.history.specs.Logs.{when, moves, owedBy, clearsLog}
 use Rattle.meter.specs.declared.step.Scalars.{Scalars}
 use Rattle.meter.specs.Machine.{owing}
 use Rattle.meter.specs.Fresh.{Settings}
-use Rattle.meter.proofs.Effects.{effectResult, Proper, AllProper, scalarsOf}
+use Rattle.meter.proofs.Effects.{effectResult, Proper, AllProper, heldScalars}
 use Rattle.meter.proofs.Clock.{clock-part}
 use Rattle.meter.proofs.Switch.{requested-result, mode-result, sampled-result}
 use Rattle.meter.proofs.Lines.{Owing}
@@ -44,10 +44,10 @@ module _ (f : Fresh) (e : Effect) (h : History) where
   owing-lines s n xs c o = record { lines = λ k l. o k; cleared = λ k l. not-zero k l ∙ sym (c k) }
 
 module _ (f : Fresh) (h : History) (m : ℕ) (t : Settings f) (all : AllProper f h) where
-  pub owing-after : (e : Effect) → Proper (modeOf f h) e → Owing f e h (effectResult (scalarsOf f h (held m)) e)
+  pub owing-after : (e : Effect) → Proper (modeOf f h) e → Owing f e h (effectResult (heldScalars f h (held m)) e)
   unfolding last samplesSince
   owing-after (sampled p) g =
-      let now = clock-part f h (scalarsOf f h (held m)) refl (sampled p) g in
+      let now = clock-part f h (heldScalars f h (held m)) refl (sampled p) g in
       subst (Owing f (sampled p) h) (sym (sampled-result f h p m t all))
       (owing-lines f (sampled p) h _ 3 _ (λ k. refl) (λ k. rw now (when-one (eqb k 3) _)))
   owing-after (requested q) g =
@@ -58,7 +58,7 @@ module _ (f : Fresh) (h : History) (m : ℕ) (t : Settings f) (all : AllProper f
       (owing-lines f (modeSet n) h _ 3 _ (λ k. refl) (λ k. when-both (eqb k 3) (moves f (modeSet n) h) _))
   owing-after (limitsSet w o u) g = owing-lines f (limitsSet w o u) h _ 3 _ (λ k. refl) (λ k. when-one (eqb k 3) _)
   owing-after (clockSet n) g =
-      let now = clock-part f h (scalarsOf f h (held m)) refl (clockSet n) g in
+      let now = clock-part f h (heldScalars f h (held m)) refl (clockSet n) g in
       owing-lines f (clockSet n) h _ 1 _ (λ k. refl) (λ k. rw (← now) (when-one (eqb k 1) _))
   owing-after (occurred r) g = owing-lines f (occurred r) h _ (r .log) _ (λ k. refl) (λ k. when-one (eqb k (r .log)) _)
   owing-after (filterSet alarms n) g = owing-lines f (filterSet alarms n) h _ 0 [] (λ k. refl) (λ k. when-none (eqb k 0))

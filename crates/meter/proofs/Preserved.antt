@@ -13,7 +13,7 @@ use Rattle.base.specs.Tests.{among, every, below}
 use Rattle.base.proofs.Bools.{and-left, and-right}
 use Rattle.base.proofs.Every.{every-append, among-passes}
 use Rattle.events.specs.Line.{Line, line, isLog}
-use Rattle.events.specs.Table.{Row, lookup, lawful}
+use Rattle.events.specs.Table.{EventRow, lookup, lawful}
 use Rattle.events.specs.Codes.{besides, mayHold}
 use Rattle.events.proofs.Rule.{row-held, row-log}
 use Rattle.events.proofs.Newest.{newest-short}
@@ -26,8 +26,8 @@ use Rattle.control.specs.Control.{modeDecision, inMode, soundControl}
 use Rattle.control.proofs.Moves.{moveCodes, table-move, moved-sound, mode-moved-sound, mode-stays-sound}
 use Rattle.limiter.specs.declared.Limiter.{Limiter}
 use Rattle.limiter.specs.declared.Watched.{Watched}
-use Rattle.limiter.specs.Limiter.{isOver, isDuration, sampled, soundLimiter}
-use Rattle.limiter.proofs.Watching.{kept, settings-sound}
+use Rattle.limiter.specs.Limiter.{isOver, isDuration, sampledPower, soundLimiter}
+use Rattle.limiter.proofs.Watching.{laws as limiter-laws, settings-sound}
 use Rattle.logs.specs.declared.Logs.{Logs}
 use Rattle.logs.specs.Lists.{appended, emptied, ownLines, soundLists}
 use Rattle.logs.specs.Layout.{Sized, laid, listsOf, soundLogs}
@@ -40,14 +40,14 @@ use Rattle.history.specs.Effects.{Fresh}
 use Rattle.meter.specs.declared.Meter.{Meter}
 use Rattle.meter.specs.declared.Outcome.{Outcome}
 use Rattle.meter.specs.declared.step.Scalars.{Scalars}
-use Rattle.meter.specs.State.{State, stateOf, scalarsOf, withControl}
+use Rattle.meter.specs.State.{State, stateOf, scalarsOf, recordOf, withControl}
 use Rattle.meter.specs.Sound.{soundScalars, soundMeter, soundState}
-use Rattle.meter.specs.Machine.{Change, Result, refusing, making, lineNow, moving, decided, answering, requestResult, afterSample, sampleResult, modeResult, limiterResult, occurring, eventResult, clearLogResult, scriptResult, result, after, carriedOut, applied}
-use Rattle.meter.specs.Fresh.{Settings, freshState, recordAfter}
+use Rattle.meter.specs.Machine.{Change, Result, refusing, making, lineNow, moving, decided, answering, requestResult, afterSample, sampleResult, modeResult, limiterResult, occurring, eventResult, clearLogResult, scriptResult, result, valuesAfter, carriedOut, applied, recordAfter}
+use Rattle.meter.specs.Fresh.{Settings, freshState}
 use Rattle.meter.proofs.Values.{laid-sized, state-sound, scalars-sound, logs-sound, record-sound, record-sized}
 use Rattle.meter.proofs.Answers.{either, afterResult}
 
-module _ (rows : List Row) where
+module _ (rows : List EventRow) where
   -- whatever the event table, a log may hold the codes that document 01 lists besides
   besides-held : (n c : ℕ) → isLog n ≡ true → among (besides n) c ≡ true → mayHold rows n c ≡ true
   unfolding mayHold
@@ -90,15 +90,15 @@ module _ (s : Scalars) (h : soundScalars s ≡ true) where
   limiter-sound = and-right (soundControl (s .control)) (soundLimiter (s .limiter)) h
 
 -- the scalars that a call leaves are sound, and its lines may stand in their log
-pub record SoundChange (rows : List Row) (k : Change) : Type 0 where
+pub record SoundChange (rows : List EventRow) (k : Change) : Type 0 where
   pub scalars : soundScalars (k .scalars) ≡ true
   pub lines : ownLines rows (k .log) (k .lines) ≡ true
 
-abbrev SoundResult : List Row → Result → Type 0
+abbrev SoundResult : List EventRow → Result → Type 0
 SoundResult rows (refusing n) = Unit
 SoundResult rows (making k) = SoundChange rows k
 
-module _ (rows : List Row) where
+module _ (rows : List EventRow) where
   -- a move of the switch table, behind lines that log 3 may hold
   moving-sound : (s : Scalars) (xs : List Line) (q : Request) → soundScalars s ≡ true → ownLines rows 3 xs ≡ true → SoundChange rows (moving s xs (decided s q))
   unfolding soundScalars
@@ -137,8 +137,8 @@ module _ (rows : List Row) where
   sample-sound : (s : Scalars) (p : ℤ) → soundScalars s ≡ true → SoundChange rows (sampleResult s p)
   unfolding sampleResult soundScalars
   sample-sound s p h =
-      let w = sampled (s .limiter) p in
-      let l = kept (s .limiter) (isOver (s .limiter .threshold) p) .sound (limiter-sound s h) in
+      let w = sampledPower (s .limiter) p in
+      let l = limiter-laws (s .limiter) (isOver (s .limiter .threshold) p) .sound (limiter-sound s h) in
       firing-sound _ w (scalars-of (s .control) (w .limiter) (control-sound s h) l)
 
   -- a mode change connects the switch with line 63, or leaves it
@@ -180,7 +180,7 @@ module _ (rows : List Row) where
   unfolding eventResult soundScalars
   event-sound all s c h = go (lookup rows c) refl
     where
-      go : (o : Option Row) → lookup rows c ≡ o → SoundResult rows (occurring s o)
+      go : (o : Option EventRow) → lookup rows c ≡ o → SoundResult rows (occurring s o)
       go none e = tt
       go (some r) e =
           record {
@@ -233,7 +233,7 @@ module _ (rows : List Row) where
       rw (k .scalars)
       (appended-sound rows (emptied (r .cleared) (v .logs)) (emptied-sound rows (v .logs) (logs-sound rows v e) (r .cleared)) (r .log) (r .lines) (k .lines))
 
-module _ (rows : List Row) (all : every lawful rows ≡ true) where
+module _ (rows : List EventRow) (all : every lawful rows ≡ true) where
   pub kept-sound : (v : State) (c : Call) → InRange c → soundState rows v ≡ true → soundState rows (afterResult v (result rows (v .scalars) c)) ≡ true
   kept-sound v c i e = after-sound rows v (result rows (v .scalars) c) e (result-sound rows all (v .scalars) c i (scalars-sound rows v e))
 
@@ -244,17 +244,17 @@ module _ (rows : List Row) (all : every lawful rows ≡ true) where
       where
         go : (r : Result) → soundState rows (afterResult (stateOf m) r) ≡ true → soundMeter rows (carriedOut m r .meter) ≡ true
         go (refusing n) k = e
-        go (making r) k = record-sound rows (after (stateOf m) r) k
+        go (making r) k = record-sound rows (valuesAfter (stateOf m) r) k
 
 -- ---- whatever a call is, the arrays keep their types' lengths
-after-sized : (rows : List Row) (g : Logs) (r : Change) → Sized g → soundLogs rows g ≡ true → Sized (laid (appended (r .log) (r .lines) (emptied (r .cleared) (listsOf g))))
+after-sized : (rows : List EventRow) (g : Logs) (r : Change) → Sized g → soundLogs rows g ≡ true → Sized (laid (appended (r .log) (r .lines) (emptied (r .cleared) (listsOf g))))
 after-sized rows g r z e =
     let empty = emptied (r .cleared) (listsOf g) in
     let short = changed-short (r .cleared) (λ xs. []) (listsOf g) (λ xs. omega arith) (read-short rows g z e) in
     laid-sized _ (length-changed (r .log) _ empty ∙ length-changed (r .cleared) _ (listsOf g) ∙ read-three rows g z e)
     (changed-short (r .log) _ empty (λ xs. newest-short (xs ++ r .lines)) short)
 
-pub applied-sized : (rows : List Row) (m : Meter) (c : Call) → Sized (m .logs) → Sized (applied rows m c .meter .logs)
+pub applied-sized : (rows : List EventRow) (m : Meter) (c : Call) → Sized (m .logs) → Sized (applied rows m c .meter .logs)
 unfolding applied soundMeter
 applied-sized rows m c z =
     either (λ (o : Outcome). Sized (o .meter .logs)) (soundMeter rows m)
@@ -266,19 +266,22 @@ applied-sized rows m c z =
     go (making r) e = after-sized rows (m .logs) r z e
 
 -- ---- the fresh meter
-pub fresh-sound : (rows : List Row) (f : Fresh) → Settings f → soundState rows (freshState f) ≡ true
+pub fresh-sound : (rows : List EventRow) (f : Fresh) → Settings f → soundState rows (freshState f) ≡ true
 unfolding soundState soundScalars soundControl soundLists below every
 fresh-sound rows f h =
     rw (h .mode, or-true, settings-sound (freshState f .scalars .limiter) (f .threshold) (f .over) (f .under) (h .threshold) (h .over) (h .under))
 
 -- each record of a list of calls, accepted or refused
-module _ (rows : List Row) (all : every lawful rows ≡ true) (f : Fresh) (h : Settings f) where
-  run-sized : (cs : List Call) → Sized (recordAfter rows f cs .logs)
+module _ (rows : List EventRow) (all : every lawful rows ≡ true) where
+  run-sound : (m : Meter) (calls : List Call) → Sized (m .logs) → AllInRange calls → soundMeter rows m ≡ true
+      → soundMeter rows (recordAfter rows m calls) ≡ true
   unfolding recordAfter
-  run-sized [] = record-sized rows (freshState f) (fresh-sound rows f h)
-  run-sized (c ∷ cs) = applied-sized rows (recordAfter rows f cs) c (run-sized cs)
+  run-sound m [] z i e = e
+  run-sound m (c ∷ calls) z i e =
+      run-sound (applied rows m c .meter) calls (applied-sized rows m c z) (i .1) (applied-sound rows all m c (i .0) z e)
 
-  pub run-sound : (cs : List Call) → AllInRange cs → soundMeter rows (recordAfter rows f cs) ≡ true
-  unfolding recordAfter
-  run-sound [] i = record-sound rows (freshState f) (fresh-sound rows f h)
-  run-sound (c ∷ cs) i = applied-sound rows all (recordAfter rows f cs) c (i .0) (run-sized cs) (run-sound cs (i .1))
+  pub reached-sound : (f : Fresh) (calls : List Call) → Settings f → AllInRange calls
+      → soundMeter rows (recordAfter rows (recordOf (freshState f)) calls) ≡ true
+  reached-sound f calls h i =
+      let sound = fresh-sound rows f h in
+      run-sound (recordOf (freshState f)) calls (record-sized rows (freshState f) sound) i (record-sound rows (freshState f) sound)

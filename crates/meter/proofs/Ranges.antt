@@ -9,7 +9,7 @@ use mathlib.Core.Option.{Option, none, some}
 use lib.Dec.{leb}
 use Rattle.base.specs.Tests.{within}
 use Rattle.calls.specs.Calls.{Word}
-use Rattle.history.specs.Effects.{Fresh, Register, alarms, errors, Effect, sampled, requested, modeSet, limitsSet, clockSet, occurred, filterSet, bitsCleared, logCleared}
+use Rattle.history.specs.Effects.{Fresh, WhichRegister, alarms, errors, Effect, sampled, requested, modeSet, limitsSet, clockSet, occurred, filterSet, bitsCleared, logCleared}
 use Rattle.history.specs.Last.{History, last, otherwise, modeIn, modeOf, Limits, limits, limitsIn, limitsOf, filterIn, filterOf}
 use Rattle.meter.specs.Fresh.{Settings}
 use Rattle.meter.proofs.Effects.{Proper, AllProper, none as noCall, more}
@@ -49,10 +49,10 @@ mode-range f t = last-holds Range modeIn (f .mode) f (t .mode) each
     each (logCleared n) h g = tt
 
 -- a filter is a number of 32 bits
-pub filter-word : (x : Register) (f : Fresh) (h : History) → AllProper f h → Word (filterOf x h)
+pub filter-word : (x : WhichRegister) (f : Fresh) (h : History) → AllProper f h → Word (filterOf x h)
 filter-word x f = last-holds Word (filterIn x) 0 f (omega arith) (each x)
   where
-    each : (x : Register) (e : Effect) (h : History) → Proper (modeOf f h) e → IfAny Word (filterIn x e h)
+    each : (x : WhichRegister) (e : Effect) (h : History) → Proper (modeOf f h) e → IfAny Word (filterIn x e h)
     each x (sampled p) h g = tt
     each x (requested q) h g = tt
     each x (modeSet n) h g = tt

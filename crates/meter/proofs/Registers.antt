@@ -15,9 +15,9 @@ use Rattle.base.proofs.Bits.{number-ext, number-none, number-at, number-bits, c
 use Rattle.calls.specs.Calls.{Word}
 use Rattle.registers.specs.declared.Register.{Register as RegisterOf}
 use Rattle.registers.specs.Register.{raised, cleared, withFilter}
-use Rattle.events.specs.Table.{Row, lookup, mask, lawful}
+use Rattle.events.specs.Table.{EventRow, lookup, mask, lawful}
 use Rattle.events.proofs.Rule.{row-alarm, row-error}
-use Rattle.history.specs.Effects.{Fresh, Register, alarms, errors, Effect, sampled, requested, modeSet, limitsSet, clockSet, occurred, filterSet, bitsCleared, logCleared}
+use Rattle.history.specs.Effects.{Fresh, WhichRegister, alarms, errors, Effect, sampled, requested, modeSet, limitsSet, clockSet, occurred, filterSet, bitsCleared, logCleared}
 use Rattle.history.specs.Last.{History, last, modeOf, filterOf}
 use Rattle.history.specs.Registers.{bitIn, isBit, stands}
 use Rattle.meter.specs.declared.step.Scalars.{Scalars}
@@ -27,7 +27,7 @@ use Rattle.meter.proofs.OtherParts.{otherParts, scalars-after}
 use Rattle.meter.proofs.Ranges.{filter-word}
 
 -- a register of the scalars
-abbrev pub sideOf : Register → Scalars → RegisterOf
+abbrev pub sideOf : WhichRegister → Scalars → RegisterOf
 sideOf alarms s = s .alarms
 sideOf errors s = s .errors
 
@@ -49,7 +49,7 @@ raise-number p q n w =
     ∙ number-ext 32 (λ b. or-comm (p b) (q b && not (bit n b)))
 
 -- an event's bit lies within the register
-bit-fits : (x : Register) (r : Row) → lawful r ≡ true → (k : ℕ) → bitIn x r ≡ some k → k < 32
+bit-fits : (x : WhichRegister) (r : EventRow) → lawful r ≡ true → (k : ℕ) → bitIn x r ≡ some k → k < 32
 unfolding every lookup
 bit-fits x r l = go x
   where
@@ -59,7 +59,7 @@ bit-fits x r l = go x
     all : every lawful (r ∷ []) ≡ true
     all = rw l
 
-    go : (x : Register) (k : ℕ) → bitIn x r ≡ some k → k < 32
+    go : (x : WhichRegister) (k : ℕ) → bitIn x r ≡ some k → k < 32
     go alarms = row-alarm (r ∷ []) all (r .code) r listed
     go errors = row-error (r ∷ []) all (r .code) r listed
 
@@ -70,22 +70,22 @@ mask-number (some k) l =
     sym (number-ext 32 (λ b. eqb-comm k b) ∙ number-at 32 k ∙ ap (λ (x : Bool). cond x (2 ^ k) 0) (lt-ltb k 32 (l k refl)))
 
 -- scalars with the same registers
-same-side : (x : Register) (s t : Scalars) → s .alarms ≡ t .alarms → s .errors ≡ t .errors → sideOf x s ≡ sideOf x t
+same-side : (x : WhichRegister) (s t : Scalars) → s .alarms ≡ t .alarms → s .errors ≡ t .errors → sideOf x s ≡ sideOf x t
 same-side alarms s t a b = a
 same-side errors s t a b = b
 
-module _ (x : Register) (h : History) (r : RegisterOf) (same : r ≡ registerOf x h) where
+module _ (x : WhichRegister) (h : History) (r : RegisterOf) (same : r ≡ registerOf x h) where
   clear-side : (m : ℕ) (q : ℕ → Bool) → m ≡ number 32 q → cleared r m ≡ record { bits = number 32 (λ b. not (q b) && stands x b h); filter = filterOf x h }
   clear-side m q e = ap₂ cleared same e ∙ (λ i. record { bits = clear-number (λ b. stands x b h) q i; filter = filterOf x h })
 
-  raise-side : (w : Row) → lawful w ≡ true → Word (filterOf x h) → raised r (mask (bitIn x w)) ≡ registerOf x (occurred w ∷ h)
+  raise-side : (w : EventRow) → lawful w ≡ true → Word (filterOf x h) → raised r (mask (bitIn x w)) ≡ registerOf x (occurred w ∷ h)
   unfolding last stands
   raise-side w l g =
       ap₂ raised same (mask-number (bitIn x w) (bit-fits x w l))
       ∙ (λ i. record { bits = raise-number (λ b. stands x b h) (isBit (bitIn x w)) (filterOf x h) g i; filter = filterOf x h })
 
 module _ (f : Fresh) (h : History) (s : Scalars) (all : AllProper f h) where
-  register-part : (x : Register) (e : Effect) → Proper (modeOf f h) e → sideOf x s ≡ registerOf x h → sideOf x (otherParts s e) ≡ registerOf x (e ∷ h)
+  register-part : (x : WhichRegister) (e : Effect) → Proper (modeOf f h) e → sideOf x s ≡ registerOf x h → sideOf x (otherParts s e) ≡ registerOf x (e ∷ h)
   unfolding last stands
   register-part x (sampled p) g same = same-side x (otherParts s (sampled p)) s refl refl ∙ same
   register-part x (requested q) g same = same
@@ -105,7 +105,7 @@ module _ (f : Fresh) (h : History) (s : Scalars) (all : AllProper f h) where
   register-part errors (bitsCleared errors n) g same = clear-side errors h (s .errors) same n (bit n) (sym (number-bits 32 n (omega arith)))
   register-part x (logCleared n) g same = same
 
-  pub register-after : (x : Register) (e : Effect) → Proper (modeOf f h) e → sideOf x s ≡ registerOf x h → sideOf x (effectResult s e .scalars) ≡ registerOf x (e ∷ h)
+  pub register-after : (x : WhichRegister) (e : Effect) → Proper (modeOf f h) e → sideOf x s ≡ registerOf x h → sideOf x (effectResult s e .scalars) ≡ registerOf x (e ∷ h)
   register-after x e g same =
       ap (sideOf x) (scalars-after s e)
       ∙ same-side x (withControl (otherParts s e) (effectResult s e .scalars .control)) (otherParts s e) refl refl

@@ -4,13 +4,13 @@ use Prim.Native.Nat.{ℕ, suc, _+_}
 use native.Mathlib.Omega.{arith}
 use mathlib.Core.Path.{_≡_, refl, ap, sym, _∙_}
 use mathlib.Core.Bool.{true, cond, and-not-self}
-use mathlib.Core.List.{List, [], _∷_}
+use mathlib.Core.List.{List, [], _∷_, reverseAux}
 use lib.Dec.{eqb}
 use Rattle.base.specs.Numbers.{held}
 use Rattle.base.specs.Bits.{number}
 use Rattle.base.specs.Tests.{every}
 use Rattle.events.specs.Line.{newest}
-use Rattle.events.specs.Table.{Row, lawful}
+use Rattle.events.specs.Table.{EventRow, lawful}
 use Rattle.calls.specs.declared.Call.{Call}
 use Rattle.calls.specs.Calls.{Word, InRange, AllInRange}
 use Rattle.history.specs.Effects.{Fresh, alarms, errors, Effect, Reading, refused, accepted, reading}
@@ -19,14 +19,15 @@ use Rattle.history.specs.Limiter.{observations, exceeded, trailing, sinceSettin
 use Rattle.history.specs.Switch.{spell, switchOf}
 use Rattle.history.specs.Registers.{stands}
 use Rattle.history.specs.Logs.{owed}
-use Rattle.history.specs.Account.{grown, acceptedCalls, opens, openings, accountOf, accountAfter}
+use Rattle.history.specs.Account.{grown, acceptedCalls, opens, openings, accountOf, accountAfter, account}
 use Rattle.meter.specs.declared.Meter.{Meter}
 use Rattle.meter.specs.declared.Outcome.{Outcome}
 use Rattle.meter.specs.State.{State, recordOf}
 use Rattle.meter.specs.Sound.{soundState}
-use Rattle.meter.specs.Machine.{after, result, applied}
-use Rattle.meter.specs.Fresh.{Settings, freshState, holding, recordAfter}
-use Rattle.meter.proofs.Effects.{effectResult, readResult, Proper, AllProper, none, more, scalarsOf, nextOpenings}
+use Rattle.meter.specs.Machine.{valuesAfter, result, recordAfter}
+use Rattle.meter.specs.Fresh.{Settings, freshState}
+use Rattle.meter.specs.Holding.{holding}
+use Rattle.meter.proofs.Effects.{effectResult, readResult, Proper, AllProper, none, more, heldScalars, nextOpenings}
 use Rattle.meter.proofs.Answers.{by-reading, afterResult, applied-state, proper}
 use Rattle.meter.proofs.Preserved.{kept-sound, fresh-sound}
 use Rattle.meter.proofs.Clock.{clock-after}
@@ -37,9 +38,9 @@ use Rattle.meter.proofs.Owed.{owing-after}
 
 -- one more accepted call
 pub effect-after : (f : Fresh) (h : History) (e : Effect) (n : ℕ) → Settings f → AllProper f h → Proper (modeOf f h) e
-    → after (holding (accountOf f h n)) (effectResult (scalarsOf f h (held n)) e) ≡ holding (accountOf f (e ∷ h) (nextOpenings f e h n))
+    → valuesAfter (holding (accountOf f h n)) (effectResult (heldScalars f h (held n)) e) ≡ holding (accountOf f (e ∷ h) (nextOpenings f e h n))
 effect-after f h e n t all g =
-    let s = scalarsOf f h (held n) in
+    let s = heldScalars f h (held n) in
     λ i. record {
       scalars =
           record {
@@ -77,7 +78,7 @@ fresh-values f t =
 refused-openings : (s n : ℕ) → cond (opens s s) (suc n) n ≡ n
 refused-openings s n = rw (and-not-self (eqb s 1))
 
-module _ (rows : List Row) (table : every lawful rows ≡ true) (f : Fresh) (t : Settings f) where
+module _ (rows : List EventRow) (table : every lawful rows ≡ true) (f : Fresh) (t : Settings f) where
   -- the values that the account of a list names; newest call first
   abbrev named : List Call → State
   named cs = holding (accountAfter rows f cs)
@@ -121,11 +122,18 @@ module _ (rows : List Row) (table : every lawful rows ≡ true) (f : Fresh) (t :
   named-sound [] i = rw (← fresh-values f t) (fresh-sound rows f t)
   named-sound (c ∷ cs) i = rw (← next c cs (i .0) (i .1)) (kept-sound rows table (named cs) c (i .0) (named-sound cs (i .1)))
 
+  -- after some calls, newest first, and then others, in their order
+  holds-from : (before calls : List Call) → AllInRange before → AllInRange calls
+      → recordAfter rows (recordOf (named before)) calls ≡ recordOf (named (reverseAux calls before))
+  unfolding recordAfter
+  holds-from before [] i k = refl
+  holds-from before (c ∷ calls) i k =
+      ap (λ (m : Meter). recordAfter rows m calls)
+      (applied-state rows (named before) (named-sound before i) c ∙ ap recordOf (next c before (k .0) i))
+      ∙ holds-from (c ∷ before) calls (k .0, i) (k .1)
+
   -- after any list of calls the record is the one that holds the account
-  pub simulates : (cs : List Call) → AllInRange cs → recordAfter rows f cs ≡ recordOf (named cs)
-  unfolding recordAfter acceptedCalls openings
-  simulates [] i = ap recordOf (fresh-values f t)
-  simulates (c ∷ cs) i =
-      ap (λ (m : Meter). applied rows m c .meter) (simulates cs (i .1))
-      ∙ applied-state rows (named cs) (named-sound cs (i .1)) c
-      ∙ ap recordOf (next c cs (i .0) (i .1))
+  pub simulates : (calls : List Call) → AllInRange calls → recordAfter rows (recordOf (freshState f)) calls ≡ recordOf (holding (account rows f calls))
+  unfolding acceptedCalls openings
+  simulates calls i =
+      ap (λ (v : State). recordAfter rows (recordOf v) calls) (fresh-values f t) ∙ holds-from [] calls tt i

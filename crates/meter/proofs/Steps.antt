@@ -13,7 +13,7 @@ use mir.Val.{toZ, ofZ, SFits}
 use mir.Syntax.{w32}
 use borrow.Author.Tests.{le-leb, le-ltb}
 use Rattle.registers.specs.Register.{raised}
-use Rattle.events.specs.Table.{Row, foundOf}
+use Rattle.events.specs.Table.{EventRow, foundOf}
 use Rattle.events.specs.declared.Found.{Found}
 use Rattle.events.specs.declared.Found.the-variants.{Listed, NotListed}
 use Rattle.control.specs.declared.Request.the-variants.{LocalDisconnect, LocalReconnect}
@@ -42,7 +42,7 @@ reporting s (Listed e) =
     (lineNow s (e .code) ∷ []))
 reporting s NotListed = stepOf s (refusing 6)
 
-pub reporting-found : (s : Scalars) (o : Option Row) → reporting s (foundOf o) ≡ stepOf s (occurring s o)
+pub reporting-found : (s : Scalars) (o : Option EventRow) → reporting s (foundOf o) ≡ stepOf s (occurring s o)
 reporting-found s none = refl
 reporting-found s (some r) = refl
 

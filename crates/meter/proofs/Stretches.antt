@@ -12,13 +12,13 @@ use lib.Signed.{ltZ}
 use borrow.Author.Tests.{leb-true, lt-leb}
 use Rattle.base.proofs.Bools.{and-left}
 use Rattle.limiter.specs.declared.Limiter.{Limiter}
-use Rattle.limiter.specs.Limiter.{watching, watched, sampled as sampledBy, withSettings}
+use Rattle.limiter.specs.Limiter.{watching, watched, sampledPower as sampledBy, withSettings}
 use Rattle.history.specs.Effects.{Fresh, sampled, requested, modeSet, limitsSet, clockSet, occurred, filterSet, bitsCleared, logCleared}
 use Rattle.history.specs.Last.{History, Limits, last, limitsOf}
 use Rattle.history.specs.Limiter.{Observation, judged, observations, durationOf, duration, sinceSetting, allAre, exceeded, exceededOf, trailing}
 use Rattle.meter.specs.Fresh.{Settings}
 use Rattle.meter.proofs.Ranges.{DurationsInRange, durations-range}
-use Rattle.meter.proofs.Effects.{AllProper, limiterOf}
+use Rattle.meter.proofs.Effects.{AllProper, heldLimiter}
 
 -- the duration in force for over samples (true) or others (false) is at least 1
 duration-positive : (l : Limits) → DurationsInRange l → (b : Bool) → 1 ≤ durationOf b (l .over) (l .under)
@@ -80,7 +80,7 @@ watched-by l cs true true true h = refl
 watched-by l cs true true false h = refl
 
 -- the machine's limiter at a sample: the account's, and it fires exactly if Exceeded changes
-pub sampled-watched : (f : Fresh) (h : History) (p : ℤ) → Settings f → AllProper f h → sampledBy (limiterOf f h) p ≡ watching (limiterOf f (sampled p ∷ h)) (changes (exceededOf f h) (exceededOf f (sampled p ∷ h)))
+pub sampled-watched : (f : Fresh) (h : History) (p : ℤ) → Settings f → AllProper f h → sampledBy (heldLimiter f h) p ≡ watching (heldLimiter f (sampled p ∷ h)) (changes (exceededOf f h) (exceededOf f (sampled p ∷ h)))
 unfolding last observations sinceSetting
 sampled-watched f h p s a =
     let l = limitsOf f h in
@@ -94,6 +94,6 @@ sampled-watched f h p s a =
     ∙ ap (λ (e : Bool). watching (limiterBy l (b ∷ cs) e) (changes (exceeded os) e)) (sym next)
 
 -- ---- a setting
-pub limiter-limited : (f : Fresh) (h : History) (t : ℤ) (o u : ℕ) → withSettings (limiterOf f h) t o u ≡ limiterOf f (limitsSet t o u ∷ h)
+pub limiter-limited : (f : Fresh) (h : History) (t : ℤ) (o u : ℕ) → withSettings (heldLimiter f h) t o u ≡ heldLimiter f (limitsSet t o u ∷ h)
 unfolding last observations exceeded sinceSetting trailing
 limiter-limited f h t o u = refl

@@ -24,7 +24,7 @@ use Rattle.control.specs.Control.{orStay, decision, modeDecision, movedTo}
 use Rattle.control.proofs.Answers.{answered, rows}
 use Rattle.limiter.specs.declared.Watched.{Watched}
 use Rattle.limiter.specs.Limiter.{watching}
-use Rattle.history.specs.Effects.{Fresh, Request, remoteDisconnect, remoteReconnect, manualDisconnect, manualReconnect, alarms, errors, Effect, sampled, requested, modeSet, limitsSet, clockSet, occurred, filterSet, bitsCleared, logCleared, listedModes}
+use Rattle.history.specs.Effects.{Fresh, RequestCall, remoteDisconnect, remoteReconnect, manualDisconnect, manualReconnect, alarms, errors, Effect, sampled, requested, modeSet, limitsSet, clockSet, occurred, filterSet, bitsCleared, logCleared, listedModes}
 use Rattle.history.specs.Last.{History, otherwise, last, modeOf, clockOf}
 use Rattle.history.specs.Limiter.{observations, exceededOf, firesOver, firesUnder}
 use Rattle.history.specs.Switch.{given, spell, decides, switchOf}
@@ -35,11 +35,11 @@ use Rattle.meter.specs.State.{withControl, withLimiter, withClock}
 use Rattle.meter.specs.Machine.{Change, owing, lineNow, moving, decided, afterSample, sampleResult}
 use Rattle.meter.specs.Fresh.{Settings}
 use Rattle.meter.proofs.Ranges.{mode-range}
-use Rattle.meter.proofs.Effects.{requestOf, effectResult, Proper, AllProper, controlOf, limiterOf, scalarsOf, nextOpenings}
+use Rattle.meter.proofs.Effects.{requestOf, effectResult, Proper, AllProper, heldControl, heldLimiter, heldScalars, nextOpenings}
 use Rattle.meter.proofs.Stretches.{changes, sampled-watched, limiter-limited}
 
 -- every request lists modes 1 to 6 only, a manual disconnect 1, 2 and 5
-listed-mode : (q : Request) (m : ℕ) → among (listedModes q) m ≡ true → within 1 6 m ≡ true
+listed-mode : (q : RequestCall) (m : ℕ) → among (listedModes q) m ≡ true → within 1 6 m ≡ true
 unfolding every
 listed-mode remoteDisconnect m e = among-passes (within 1 6) (listedModes remoteDisconnect) m refl e
 listed-mode remoteReconnect m e = among-passes (within 1 6) (listedModes remoteReconnect) m refl e
@@ -143,7 +143,7 @@ module _ (m : ℕ) (listed : within 1 6 m ≡ true) where
   manual-reconnect false two = rw listed
 
 -- a request
-pub request-switches : (f : Fresh) (h : History) (q : Request) → Proper (modeOf f h) (requested q) → Switches f (requested q) h (requestCode q (switchOf f (requested q ∷ h))) (decision switchTable (requestOf q) (modeOf f h) (switchOf f h))
+pub request-switches : (f : Fresh) (h : History) (q : RequestCall) → Proper (modeOf f h) (requested q) → Switches f (requested q) h (requestCode q (switchOf f (requested q ∷ h))) (decision switchTable (requestOf q) (modeOf f h) (switchOf f h))
 unfolding switchOf spell last
 request-switches f h remoteDisconnect p =
     rw rows (remote-disconnect (modeOf f h) (listed-mode remoteDisconnect (modeOf f h) p) (spell h) (last-decided f h))
@@ -269,19 +269,19 @@ controlIn m s n = record { mode = m; state = s; openings = n }
 switched-control : (m from to n : ℕ) → switchedTo (controlIn m from (held n)) to ≡ controlIn m to (held (cond (opens from to) (suc n) n))
 switched-control m from to n = ap (controlIn m to) (held-next (opens from to) n)
 
-pub requested-result : (f : Fresh) (h : History) (q : Request) (n : ℕ) → Proper (modeOf f h) (requested q) → effectResult (scalarsOf f h (held n)) (requested q) ≡ owing (withControl (scalarsOf f h (held n)) (controlOf f (requested q ∷ h) (held (nextOpenings f (requested q) h n)))) 3 (when (moves f (requested q) h) (line (clockOf f h) (requestCode q (switchOf f (requested q ∷ h))) ∷ []))
+pub requested-result : (f : Fresh) (h : History) (q : RequestCall) (n : ℕ) → Proper (modeOf f h) (requested q) → effectResult (heldScalars f h (held n)) (requested q) ≡ owing (withControl (heldScalars f h (held n)) (heldControl f (requested q ∷ h) (held (nextOpenings f (requested q) h n)))) 3 (when (moves f (requested q) h) (line (clockOf f h) (requestCode q (switchOf f (requested q ∷ h))) ∷ []))
 unfolding last
 requested-result f h q n p =
-    let s = scalarsOf f h (held n) in
+    let s = heldScalars f h (held n) in
     let to = switchOf f (requested q ∷ h) in
     moving-switched s [] (decided s (requestOf q)) to (requestCode q to) (request-switches f h q p)
     ∙ ap (λ c. owing (withControl s c) 3 (when (moves f (requested q) h) (lineNow s (requestCode q to) ∷ [])))
     (switched-control (modeOf f h) (switchOf f h) to n)
 
-pub mode-result : (f : Fresh) (h : History) (m n : ℕ) → effectResult (scalarsOf f h (held n)) (modeSet m) ≡ owing (withControl (scalarsOf f h (held n)) (controlOf f (modeSet m ∷ h) (held (nextOpenings f (modeSet m) h n)))) 3 (when (moves f (modeSet m) h) (line (clockOf f h) 63 ∷ []))
+pub mode-result : (f : Fresh) (h : History) (m n : ℕ) → effectResult (heldScalars f h (held n)) (modeSet m) ≡ owing (withControl (heldScalars f h (held n)) (heldControl f (modeSet m ∷ h) (held (nextOpenings f (modeSet m) h n)))) 3 (when (moves f (modeSet m) h) (line (clockOf f h) 63 ∷ []))
 unfolding last
 mode-result f h m n =
-    let s = withControl (scalarsOf f h (held n)) (controlIn m (switchOf f h) (held n)) in
+    let s = withControl (heldScalars f h (held n)) (controlIn m (switchOf f h) (held n)) in
     let to = switchOf f (modeSet m ∷ h) in
     moving-switched s [] (modeDecision m (switchOf f h)) to 63 (mode-switches f h m)
     ∙ ap (λ c. owing (withControl s c) 3 (when (moves f (modeSet m) h) (lineNow s 63 ∷ [])))
@@ -309,28 +309,28 @@ after-sample s w true false to p q over under stays =
 abbrev pub sampledScalars : Fresh → History → ℤ → ℕ → Scalars
 sampledScalars f h p n =
     withControl
-    (withLimiter (withClock (scalarsOf f h (held n)) (held (clockOf f h + 1))) (limiterOf f (sampled p ∷ h)))
-    (controlOf f (sampled p ∷ h) (held (nextOpenings f (sampled p) h n)))
+    (withLimiter (withClock (heldScalars f h (held n)) (held (clockOf f h + 1))) (heldLimiter f (sampled p ∷ h)))
+    (heldControl f (sampled p ∷ h) (held (nextOpenings f (sampled p) h n)))
 
-pub sampled-result : (f : Fresh) (h : History) (p : ℤ) (n : ℕ) → Settings f → AllProper f h → effectResult (scalarsOf f h (held n)) (sampled p) ≡ owing (sampledScalars f h p n) 3 (sampleLines (held (clockOf f h + 1)) (exceededOf f h) (exceededOf f (sampled p ∷ h)) (moves f (sampled p) h))
+pub sampled-result : (f : Fresh) (h : History) (p : ℤ) (n : ℕ) → Settings f → AllProper f h → effectResult (heldScalars f h (held n)) (sampled p) ≡ owing (sampledScalars f h p n) 3 (sampleLines (held (clockOf f h + 1)) (exceededOf f h) (exceededOf f (sampled p ∷ h)) (moves f (sampled p) h))
 unfolding last sampleResult
 sampled-result f h p n s a =
     let now = held (clockOf f h + 1) in
-    let before = withClock (scalarsOf f h (held n)) now in
+    let before = withClock (heldScalars f h (held n)) now in
     let e = exceededOf f h in
     let e′ = exceededOf f (sampled p ∷ h) in
     let to = switchOf f (sampled p ∷ h) in
     ap (λ (w : Watched). afterSample (withLimiter before (w .limiter)) w) (sampled-watched f h p s a)
-    ∙ after-sample (withLimiter before (limiterOf f (sampled p ∷ h))) (watching (limiterOf f (sampled p ∷ h)) (changes e e′)) e e′ to refl refl (over-switches f h p s a) (under-switches f h p s a) (sample-switches f h p)
-    ∙ ap (λ c. owing (withControl (withLimiter before (limiterOf f (sampled p ∷ h))) c) 3 (sampleLines now e e′ (moves f (sampled p) h)))
+    ∙ after-sample (withLimiter before (heldLimiter f (sampled p ∷ h))) (watching (heldLimiter f (sampled p ∷ h)) (changes e e′)) e e′ to refl refl (over-switches f h p s a) (under-switches f h p s a) (sample-switches f h p)
+    ∙ ap (λ c. owing (withControl (withLimiter before (heldLimiter f (sampled p ∷ h))) c) 3 (sampleLines now e e′ (moves f (sampled p) h)))
     (switched-control (modeOf f h) (switchOf f h) to n)
 
 -- ---- control and limiter after any accepted call
 -- where the switch stays, so do the openings
-unmoved : (f : Fresh) (h : History) (n : ℕ) → controlOf f h (held n) ≡ controlOf f h (held (cond (opens (switchOf f h) (switchOf f h)) (suc n) n))
+unmoved : (f : Fresh) (h : History) (n : ℕ) → heldControl f h (held n) ≡ heldControl f h (held (cond (opens (switchOf f h) (switchOf f h)) (suc n) n))
 unmoved f h n = rw (and-not-self (eqb (switchOf f h) 1))
 
-pub control-kept : (f : Fresh) (h : History) (e : Effect) (n : ℕ) → Settings f → AllProper f h → Proper (modeOf f h) e → effectResult (scalarsOf f h (held n)) e .scalars .control ≡ controlOf f (e ∷ h) (held (nextOpenings f e h n))
+pub control-kept : (f : Fresh) (h : History) (e : Effect) (n : ℕ) → Settings f → AllProper f h → Proper (modeOf f h) e → effectResult (heldScalars f h (held n)) e .scalars .control ≡ heldControl f (e ∷ h) (held (nextOpenings f e h n))
 unfolding last spell switchOf
 control-kept f h (sampled p) n s a k = ap (λ (r : Change). r .scalars .control) (sampled-result f h p n s a)
 control-kept f h (requested q) n s a k = ap (λ (r : Change). r .scalars .control) (requested-result f h q n k)
@@ -344,7 +344,7 @@ control-kept f h (bitsCleared alarms m) n s a k = unmoved f h n
 control-kept f h (bitsCleared errors m) n s a k = unmoved f h n
 control-kept f h (logCleared m) n s a k = unmoved f h n
 
-pub limiter-kept : (f : Fresh) (h : History) (e : Effect) (n : ℕ) → Settings f → AllProper f h → Proper (modeOf f h) e → effectResult (scalarsOf f h (held n)) e .scalars .limiter ≡ limiterOf f (e ∷ h)
+pub limiter-kept : (f : Fresh) (h : History) (e : Effect) (n : ℕ) → Settings f → AllProper f h → Proper (modeOf f h) e → effectResult (heldScalars f h (held n)) e .scalars .limiter ≡ heldLimiter f (e ∷ h)
 unfolding last observations
 limiter-kept f h (sampled p) n s a k = ap (λ (r : Change). r .scalars .limiter) (sampled-result f h p n s a)
 limiter-kept f h (requested q) n s a k = ap (λ (r : Change). r .scalars .limiter) (requested-result f h q n k)

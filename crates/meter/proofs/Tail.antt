@@ -9,11 +9,11 @@ use lib.ListN.{length, take, length-map, length-append}
 use lib.Seq.{take-at, length-take-le}
 use Rattle.base.proofs.Bools.{and-right}
 use Rattle.events.specs.Line.{Line}
-use Rattle.events.specs.Table.{Row}
+use Rattle.events.specs.Table.{EventRow}
 use Rattle.logs.specs.declared.Logs.{Logs}
 use Rattle.logs.specs.Lists.{appended, emptied}
 use Rattle.logs.specs.Arrays.{soundArrays, extended, counted, zeroed, uncounted}
-use Rattle.logs.specs.Layout.{Sized, clockOf, codeOf, laid, listsOf, soundLogs, extendedArrays, zeroedArrays}
+use Rattle.logs.specs.Layout.{Sized, lineClock, lineCode, laid, listsOf, soundLogs, extendedArrays, zeroedArrays}
 use Rattle.logs.proofs.Read.{read-short, read-three, laid-lists}
 use Rattle.logs.proofs.Laid.{zeroed-laid, extended-laid}
 use Rattle.logs.proofs.Inverse.{lists-sound}
@@ -41,26 +41,26 @@ module _ (f : Line → ℕ) (xs : List Line) where
   first-lines = take-at (map f xs) _ (length xs) (length-map xs f)
 
 -- ---- the test of the record
-pub sound-is : (rows : List Row) (m : Meter) (a b : Bool) → a ≡ soundScalars (scalarsOf m)
+pub sound-is : (rows : List EventRow) (m : Meter) (a b : Bool) → a ≡ soundScalars (scalarsOf m)
     → b ≡ soundArrays rows (m .logs .counts) (m .logs .clocks) (m .logs .codes) → a && b ≡ soundMeter rows m
 unfolding soundMeter soundLogs
 sound-is rows m a b p q = rw (p, q)
 
-pub not-sound : (rows : List Row) (m : Meter) (c : Call) → soundMeter rows m ≡ false
+pub not-sound : (rows : List EventRow) (m : Meter) (c : Call) → soundMeter rows m ≡ false
     → _≡_ {A = Outcome} (record { meter = m; answer = Refused 12 }) (appliedInParts rows m c)
 unfolding appliedInParts
 not-sound rows m c e = rw e
 
 -- ---- the record taken apart
-pub of-parts : (rows : List Row) (m : Meter) (c : Call) (s : Scalars) (o : Outcome) → s ≡ scalarsOf m
+pub of-parts : (rows : List EventRow) (m : Meter) (c : Call) (s : Scalars) (o : Outcome) → s ≡ scalarsOf m
     → o ≡ applied rows (withLogs s (m .logs .counts) (m .logs .clocks) (m .logs .codes)) c → o ≡ applied rows m c
 of-parts rows m c s o e p = rw (p, e)
 
 -- ---- the logs
-module _ (rows : List Row) (g : Logs) (z : Sized g) (e : soundLogs rows g ≡ true) (r : Change) where
+module _ (rows : List EventRow) (g : Logs) (z : Sized g) (e : soundLogs rows g ≡ true) (r : Change) where
   -- the arrays as the code leaves them
   abbrev left : Logs
-  left = extendedArrays (r .log) (map clockOf (r .lines)) (map codeOf (r .lines)) (zeroedArrays (r .cleared) g)
+  left = extendedArrays (r .log) (map lineClock (r .lines)) (map lineCode (r .lines)) (zeroedArrays (r .cleared) g)
 
   logs-after : left ≡ laid (appended (r .log) (r .lines) (emptied (r .cleared) (listsOf g)))
   logs-after =
@@ -68,7 +68,7 @@ module _ (rows : List Row) (g : Logs) (z : Sized g) (e : soundLogs rows g ≡ tr
       let empty = emptied (r .cleared) lists in
       let sound = emptied-sound rows lists (lists-sound rows g z e) (r .cleared) in
       let cleared = zeroed-laid (r .cleared) lists (read-three rows g z e) (read-short rows g z e) in
-      let put = extendedArrays (r .log) (map clockOf (r .lines)) (map codeOf (r .lines)) in
+      let put = extendedArrays (r .log) (map lineClock (r .lines)) (map lineCode (r .lines)) in
       ap (λ h. put (zeroedArrays (r .cleared) h)) (sym (laid-lists rows g z e))
       ∙ ap put cleared
       ∙ extended-laid (r .log) empty (lists-length rows empty sound) (lists-short rows empty sound) (r .lines)
@@ -85,7 +85,7 @@ unfolding extendedArrays zeroedArrays counted extended uncounted zeroed
 nothing-owed m n = refl
 
 -- what the code leaves of the record: the arrays g₀ after the clear, and g after the lines
-pub finished : (rows : List Row) (m : Meter) (c : Call) → soundMeter rows m ≡ true
+pub finished : (rows : List EventRow) (m : Meter) (c : Call) → soundMeter rows m ≡ true
     → (s : Step) (g₀ g : Logs) → s ≡ stepOf (scalarsOf m) (result rows (scalarsOf m) c) → g₀ ≡ zeroedArrays (s .cleared) (m .logs)
     → g ≡ extendedArrays (s .log) (take (s .count) (s .clocks)) (take (s .count) (s .codes)) g₀
     → outcomeOf (record { scalars = s .scalars; answer = s .answer }) (g .counts) (g .clocks) (g .codes) ≡ appliedInParts rows m c
@@ -94,10 +94,10 @@ finished rows m c e s g₀ g steps clears adds = rw (adds, clears, steps, e) (go
   where
     go : (r : Result) → leftBy m (stepOf (scalarsOf m) r) ≡ leftIn m r
     go (refusing n) = nothing-owed m n
-    go (making k) = rw (first-lines clockOf (k .lines), first-lines codeOf (k .lines))
+    go (making k) = rw (first-lines lineClock (k .lines), first-lines lineCode (k .lines))
 
 -- ---- of arrays of their types' lengths
-module _ (rows : List Row) (m : Meter) where
+module _ (rows : List EventRow) (m : Meter) where
   pub in-parts : (c : Call) → Sized (m .logs) → appliedInParts rows m c ≡ applied rows m c
   unfolding appliedInParts applied soundMeter
   in-parts c z = go (soundMeter rows m) refl
@@ -123,7 +123,7 @@ module _ (rows : List Row) (m : Meter) where
 -- ---- the parts of the two arrays, as long as the count says
 pub lines-room : (s : Step) (t : Scalars) (r : Result) → s ≡ stepOf t r → (s .count ≤ length (s .clocks)) × (s .count ≤ length (s .codes))
 lines-room s t (refusing n) e = rw e (omega arith, omega arith)
-lines-room s t (making k) e = rw e (in-two clockOf (k .lines), in-two codeOf (k .lines))
+lines-room s t (making k) e = rw e (in-two lineClock (k .lines), in-two lineCode (k .lines))
 
 pub part-length : (n : ℕ) (xs : List ℕ) → n ≤ length xs → n ≡ length (take n xs)
 part-length n xs h = sym (length-take-le n xs h)

@@ -8,9 +8,9 @@ use native.Mathlib.Omega.{arith}
 use lib.ListN.{length, length-append, length-map}
 use Rattle.base.proofs.Bools.{and-left, and-right}
 use Rattle.events.specs.Line.{Line}
-use Rattle.events.specs.Table.{Row}
+use Rattle.events.specs.Table.{EventRow}
 use Rattle.logs.specs.Lists.{soundLists}
-use Rattle.logs.specs.Layout.{Sized, clockOf, codeOf, flat, laid, soundLogs}
+use Rattle.logs.specs.Layout.{Sized, lineClock, lineCode, flat, laid, soundLogs}
 use Rattle.logs.proofs.Places.{Short, none, more, length-padded}
 use Rattle.logs.proofs.Laid.{map-short}
 use Rattle.logs.proofs.Read.{laid-lists}
@@ -40,12 +40,12 @@ unfolding laid
 laid-sized logs t s =
     record {
       counts = length-map logs length ∙ t;
-      clocks = length-column clockOf logs t s;
-      codes = length-column codeOf logs t s;
+      clocks = length-column lineClock logs t s;
+      codes = length-column lineCode logs t s;
     }
 
 -- ---- of a sound record
-module _ (rows : List Row) (m : Meter) (z : Sized (m .logs)) (e : soundMeter rows m ≡ true) where
+module _ (rows : List EventRow) (m : Meter) (z : Sized (m .logs)) (e : soundMeter rows m ≡ true) where
   arrays-sound : soundLogs rows (m .logs) ≡ true
   unfolding soundMeter
   arrays-sound = and-right (soundScalars (scalarsOf m)) (soundLogs rows (m .logs)) e
@@ -66,7 +66,7 @@ module _ (rows : List Row) (m : Meter) (z : Sized (m .logs)) (e : soundMeter row
       rw (and-left (soundScalars (scalarsOf m)) (soundLogs rows (m .logs)) e) (lists-sound rows (m .logs) z arrays-sound)
 
 -- ---- of sound values
-module _ (rows : List Row) (v : State) (e : soundState rows v ≡ true) where
+module _ (rows : List EventRow) (v : State) (e : soundState rows v ≡ true) where
   pub scalars-sound : soundScalars (v .scalars) ≡ true
   unfolding soundState
   scalars-sound = and-left (soundScalars (v .scalars)) (soundLists rows (v .logs)) e

@@ -1,96 +1,88 @@
 -- 'To be proved of the definitions as one table: lines 3, 4, 8, 10, 12, 14, 15 above; power −2,147,483,648 is not over 0; Over 86,400 taken,
 -- 86,401 refused; the 33rd line drops the first.' With log 3 at the end of the example.
 use Prim.Native.Nat.{ℕ, zero, suc, _-_}
-use mathlib.Core.Path.{_≡_, refl}
+use mathlib.Core.Path.{_≡_}
 use mathlib.Core.Bool.{false}
-use mathlib.Core.List.{List, [], _∷_, map, reverse}
+use mathlib.Core.List.{List, [], _∷_, map}
 use lib.IntN.{pos, negsuc}
 use lib.ListN.{getD}
-use Rattle.base.specs.Tests.{among, every, below}
-use Rattle.events.specs.Line.{Line, line, newest}
-use Rattle.events.specs.Table.{builtIn, lookup}
-use Rattle.events.specs.Codes.{besides, mayHold}
-use Rattle.control.specs.Table.{switchTable}
-use Rattle.control.specs.Control.{decision, modeDecision, soundControl}
-use Rattle.limiter.specs.Limiter.{isOver, watched, soundLimiter}
-use Rattle.logs.specs.Lists.{changed}
-use Rattle.logs.specs.Arrays.{ownCodes, zeroPast, soundLog, soundArrays}
-use Rattle.logs.specs.Layout.{padded, flat, laid, listsOf, soundLogs}
+use Rattle.events.specs.Line.{Line, line}
+use Rattle.events.specs.Table.{builtIn}
+use Rattle.limiter.specs.Limiter.{isOver}
+use Rattle.logs.specs.Layout.{listsOf}
 use Rattle.calls.specs.declared.Call.{Call}
 use Rattle.calls.specs.declared.Call.the-variants.{Sample, SetLimiter, Event}
 use Rattle.calls.specs.declared.Answer.the-variants.{Accepted, Refused}
 use Rattle.calls.specs.Calls.{answerNumber}
 use Rattle.history.specs.Effects.{Fresh}
-use Rattle.history.specs.Examples.{bench, benchCalls}
+use Rattle.history.specs.Examples.{exampleSettings, exampleCalls}
 use Rattle.meter.specs.declared.Meter.{Meter}
 use Rattle.meter.specs.State.{recordOf}
-use Rattle.meter.specs.Sound.{soundScalars, soundMeter}
-use Rattle.meter.specs.Machine.{requestResult, sampleResult, modeResult, limiterResult, eventResult, scriptResult, applied}
-use Rattle.meter.specs.Fresh.{freshState, recordAfter}
+use Rattle.meter.specs.Machine.{applied, recordAfter}
+use Rattle.meter.specs.Fresh.{freshState}
 
 -- 'Per record a line: position from 1, refusal or 0, switch, openings'
-pub record Printed : Type 0 where
+pub record PrintedLine : Type 0 where
   pub position : ℕ
   pub refusal : ℕ
   pub switch : ℕ
   pub openings : ℕ
 
 -- a line of these four numbers
-abbrev pub printed : ℕ → ℕ → ℕ → ℕ → Printed
+abbrev pub printed : ℕ → ℕ → ℕ → ℕ → PrintedLine
 printed k n s o = record { position = k; refusal = n; switch = s; openings = o }
 
 -- the line of the record m at position k, with the refusal n
-abbrev pub lineOf : ℕ → ℕ → Meter → Printed
-lineOf k n m = printed k n (m .control .state) (m .control .openings)
+abbrev pub printedOf : ℕ → ℕ → Meter → PrintedLine
+printedOf k n m = printed k n (m .control .state) (m .control .openings)
 
 -- the lines of calls from position k on: each call gets the record that the one before handed back
-unfoldable pub linesFrom : ℕ → Meter → List Call → List Printed
-linesFrom k m [] = []
-linesFrom k m (c ∷ cs) =
+unfoldable pub printedFrom : ℕ → Meter → List Call → List PrintedLine
+printedFrom k m [] = []
+printedFrom k m (c ∷ cs) =
     let o = applied builtIn m c in
-    lineOf k (answerNumber (o .answer)) (o .meter) ∷ linesFrom (suc k) (o .meter) cs
+    printedOf k (answerNumber (o .answer)) (o .meter) ∷ printedFrom (suc k) (o .meter) cs
 
 -- 'The first has kind 0 and is fresh'
-abbrev pub listing : Fresh → List Call → List Printed
-listing f cs =
+abbrev pub printedListing : Fresh → List Call → List PrintedLine
+printedListing f cs =
     let m = recordOf (freshState f) in
-    lineOf 1 0 m ∷ linesFrom 2 m cs
+    printedOf 1 0 m ∷ printedFrom 2 m cs
 
 -- the printed lines at some positions
-abbrev pub linesAt : List ℕ → List Printed
-linesAt ks = map (λ k. getD (listing bench benchCalls) (k - 1) (printed 0 0 0 0)) ks
+abbrev pub printedAt : List ℕ → List PrintedLine
+printedAt ks = map (λ k. getD (printedListing exampleSettings exampleCalls) (k - 1) (printed 0 0 0 0)) ks
 
 -- log n of a record
 abbrev pub logIn : Meter → ℕ → List Line
 logIn m n = getD (listsOf (m .logs)) (n - 1) []
 
--- n samples, and after each the event 1, newest first: a line in log 1 for each second
-abbrev pub eachSecond : ℕ → List Call
-eachSecond zero = []
-eachSecond (suc n) = Event 1 ∷ Sample (pos 0) ∷ eachSecond n
+-- the fresh meter of the worked example
+abbrev pub exampleMeter : Meter
+exampleMeter = recordOf (freshState exampleSettings)
+
+-- n samples, and after each the event 1: a line in log 1 for each second
+abbrev pub callsEverySecond : ℕ → List Call
+callsEverySecond zero = []
+callsEverySecond (suc n) = Sample (pos 0) ∷ Event 1 ∷ callsEverySecond n
 
 -- n lines of code c, at t and each second after it
-abbrev pub linesOf : ℕ → ℕ → ℕ → List Line
-linesOf c t zero = []
-linesOf c t (suc n) = line t c ∷ linesOf c (suc t) n
+abbrev pub everySecond : ℕ → ℕ → ℕ → List Line
+everySecond c t zero = []
+everySecond c t (suc n) = line t c ∷ everySecond c (suc t) n
 
 -- the examples, one table
 pub record Examples : Type 0 where
   pub lines :
-      linesAt (3 ∷ 4 ∷ 8 ∷ 10 ∷ 12 ∷ 14 ∷ 15 ∷ [])
+      printedAt (3 ∷ 4 ∷ 8 ∷ 10 ∷ 12 ∷ 14 ∷ 15 ∷ [])
       ≡ printed 3 0 1 0 ∷ printed 4 0 2 1 ∷ printed 8 0 1 1 ∷ printed 10 0 0 2 ∷ printed 12 0 2 2 ∷ printed 14 0 1 2 ∷ printed 15 2 1 2 ∷ []
   -- 'Log 3 then: 65, 64, 61 at 1003; 66, 62, 59, 63 at 1006'
   pub log :
-      logIn (recordAfter builtIn bench (reverse benchCalls)) 3
+      logIn (recordAfter builtIn exampleMeter exampleCalls) 3
       ≡ line 1003 65 ∷ line 1003 64 ∷ line 1003 61 ∷ line 1006 66 ∷ line 1006 62 ∷ line 1006 59 ∷ line 1006 63 ∷ []
   pub power : isOver (pos 0) (negsuc 2147483647) ≡ false
-  pub taken : applied builtIn (recordAfter builtIn bench []) (SetLimiter (pos 3000) 86400 3) .answer ≡ Accepted
-  pub refused : applied builtIn (recordAfter builtIn bench []) (SetLimiter (pos 3000) 86401 3) .answer ≡ Refused 5
+  pub taken : applied builtIn exampleMeter (SetLimiter (pos 3000) 86400 3) .answer ≡ Accepted
+  pub refused : applied builtIn exampleMeter (SetLimiter (pos 3000) 86401 3) .answer ≡ Refused 5
   -- 32 lines stand; of 33, the first is dropped
-  pub full : logIn (recordAfter builtIn bench (eachSecond 32)) 1 ≡ linesOf 1 1001 32
-  pub dropped : logIn (recordAfter builtIn bench (eachSecond 33)) 1 ≡ linesOf 1 1002 32
-
--- each by computing it
-pub examples : Examples
-unfolding linesFrom recordAfter applied soundMeter soundScalars soundControl soundLimiter soundLogs soundArrays soundLog ownCodes zeroPast padded flat laid listsOf changed newest among every below builtIn lookup besides mayHold switchTable decision modeDecision watched requestResult sampleResult modeResult limiterResult eventResult scriptResult
-examples = record { lines = refl; log = refl; power = refl; taken = refl; refused = refl; full = refl; dropped = refl }
+  pub full : logIn (recordAfter builtIn exampleMeter (callsEverySecond 32)) 1 ≡ everySecond 1 1001 32
+  pub dropped : logIn (recordAfter builtIn exampleMeter (callsEverySecond 33)) 1 ≡ everySecond 1 1002 32

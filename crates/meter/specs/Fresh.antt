@@ -1,23 +1,18 @@
 -- 'Fresh takes mode, threshold, Over, Under, clock: switch 1, not Exceeded, all else zero or empty.'
 use mathlib.Core.Path.{_≡_}
 use mathlib.Core.Bool.{true, false}
-use mathlib.Core.List.{List, [], _∷_}
+use mathlib.Core.List.{[], _∷_}
 use Prim.Native.Nat.{ℕ}
 use lib.Dec.{leb}
 use lib.IntN.{pos}
 use Rattle.limiter.specs.Limiter.{isThreshold, isDuration}
-use Rattle.calls.specs.declared.Call.{Call}
 use Rattle.calls.specs.declared.Answer.{Answer}
 use Rattle.calls.specs.declared.Answer.the-variants.{Accepted, Refused}
 use Rattle.calls.specs.Calls.{Word, Signed}
-use Rattle.events.specs.Table.{Row}
 use Rattle.history.specs.Effects.{Fresh}
-use Rattle.history.specs.Account.{Account}
-use Rattle.meter.specs.declared.Meter.{Meter}
 use Rattle.meter.specs.declared.Outcome.{Outcome}
 use Rattle.meter.specs.State.{State, recordOf}
 use Rattle.meter.specs.Settings.{settingsOf, freshAnswer}
-use Rattle.meter.specs.Machine.{applied}
 
 -- 'switch 1, not Exceeded, all else zero or empty'
 abbrev pub freshState : Fresh → State
@@ -76,24 +71,3 @@ pub record FreshLaws : Type 0 where
   -- refused with one meter, whose settings fresh accepts
   pub refused-meter : (f : Fresh) (n : ℕ) → freshOf f .answer ≡ Refused n → freshOf f .meter ≡ recordOf (freshState leastSettings)
   pub least-settings : Settings leastSettings
-
--- the values that an account names, as the record groups them
-abbrev pub holding : Account → State
-holding a =
-    record {
-      scalars =
-          record {
-            control = record { mode = a .mode; state = a .switch; openings = a .openings };
-            limiter =
-                record { threshold = a .threshold; over = a .over; under = a .under; exceeded = a .exceeded; run = a .run };
-            clock = a .clock;
-            alarms = record { bits = a .alarms; filter = a .alarmFilter };
-            errors = record { bits = a .errors; filter = a .errorFilter };
-          };
-      logs = a .logs;
-    }
-
--- 'Its first call gets the fresh meter, each next one the record that the call before handed back': the record after a list of calls, newest first
-unfoldable pub recordAfter : List Row → Fresh → List Call → Meter
-recordAfter rows f [] = recordOf (freshState f)
-recordAfter rows f (c ∷ cs) = applied rows (recordAfter rows f cs) c .meter

@@ -1,10 +1,10 @@
--- What holds of the machine, for any event table whose rows are all `lawful` (events/specs/Table.antt): what a reader wants beside the
--- definitions.
+-- What holds of the machine: what a reader wants beside the definitions.
 use mathlib.Core.Path.{_≡_}
 use mathlib.Core.Bool.{true}
-use mathlib.Core.List.{List, reverse}
+use mathlib.Core.List.{List}
 use Prim.Native.Nat.{ℕ}
-use Rattle.events.specs.Table.{Row}
+use Rattle.base.specs.Tests.{every}
+use Rattle.events.specs.Table.{EventRow, builtIn, lawful}
 use Rattle.logs.specs.Layout.{Sized}
 use Rattle.calls.specs.declared.Call.{Call}
 use Rattle.calls.specs.declared.Answer.{Answer}
@@ -15,21 +15,18 @@ use Rattle.history.specs.Account.{account}
 use Rattle.meter.specs.declared.Meter.{Meter}
 use Rattle.meter.specs.State.{State, stateOf, recordOf}
 use Rattle.meter.specs.Sound.{soundMeter, soundState}
-use Rattle.meter.specs.Machine.{applied, commanded}
+use Rattle.meter.specs.Machine.{applied, commanded, recordAfter}
 use Rattle.meter.specs.Parts.{appliedInParts, commandedInParts}
-use Rattle.meter.specs.Fresh.{Settings, holding, recordAfter}
+use Rattle.meter.specs.Fresh.{Settings, freshState}
+use Rattle.meter.specs.Holding.{holding}
 
 -- the answer that the account's rule of refusals gives
 abbrev pub answerOf : Reading → Answer
 answerOf (refused n) = Refused n
 answerOf (accepted e) = Accepted
 
--- the record after a list of calls, in their order
-abbrev pub lastRecord : List Row → Fresh → List Call → Meter
-lastRecord rows f calls = recordAfter rows f (reverse calls)
-
 -- of soundness, answers and refusals, and of whole lists of calls
-pub record Laws (rows : List Row) : Type 0 where
+pub record LawsOf (rows : List EventRow) : Type 0 where
   -- a sound record is the layout of its values, and sound values are those of their layout
   pub record-of-state : (m : Meter) → Sized (m .logs) → soundMeter rows m ≡ true → recordOf (stateOf m) ≡ m
   pub state-of-record : (v : State) → soundState rows v ≡ true → stateOf (recordOf v) ≡ v
@@ -49,7 +46,11 @@ pub record Laws (rows : List Row) : Type 0 where
   pub command-refused-same : (m : Meter) (k n1 n2 n3 n4 n5 n : ℕ)
       → commanded rows m k n1 n2 n3 n4 n5 .answer ≡ Refused n → commanded rows m k n1 n2 n3 n4 n5 .meter ≡ m
   -- after any list of calls from accepted fresh settings, refused calls among them, the record is sound: 12 never comes
-  pub reached-sound : (f : Fresh) (calls : List Call) → Settings f → AllInRange calls → soundMeter rows (lastRecord rows f calls) ≡ true
+  pub reached-sound : (f : Fresh) (calls : List Call) → Settings f → AllInRange calls → soundMeter rows (recordAfter rows (recordOf (freshState f)) calls) ≡ true
   -- and it is the record that holds the account
   pub simulates : (f : Fresh) (calls : List Call) → Settings f → AllInRange calls
-      → lastRecord rows f calls ≡ recordOf (holding (account rows f calls))
+      → recordAfter rows (recordOf (freshState f)) calls ≡ recordOf (holding (account rows f calls))
+
+-- of every event table whose rows are lawful, and the built-in one is such a table
+abbrev pub Laws : Type 0
+Laws = (every lawful builtIn ≡ true) × ((rows : List EventRow) → every lawful rows ≡ true → LawsOf rows)

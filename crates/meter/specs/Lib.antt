@@ -4,5 +4,6 @@ pub mod Machine
 pub mod Parts
 pub mod Settings
 pub mod Fresh
+pub mod Holding
 pub mod Examples
 pub mod Laws

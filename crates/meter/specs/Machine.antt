@@ -9,7 +9,7 @@ use lib.Signed.{leZ}
 use Rattle.base.specs.Numbers.{held}
 use Rattle.registers.specs.Register.{raised, cleared, withFilter}
 use Rattle.events.specs.Line.{Line, line, isLog}
-use Rattle.events.specs.Table.{Row, lookup, mask}
+use Rattle.events.specs.Table.{EventRow, lookup, mask}
 use Rattle.control.specs.declared.Request.{Request}
 use Rattle.control.specs.declared.Request.the-variants as request
 use Rattle.control.specs.declared.Decision.{Decision}
@@ -17,7 +17,7 @@ use Rattle.control.specs.declared.Decision.the-variants.{Move, Stay, NotListed}
 use Rattle.control.specs.Table.{switchTable}
 use Rattle.control.specs.Control.{decision, modeDecision, movedTo, inMode}
 use Rattle.limiter.specs.declared.Watched.{Watched}
-use Rattle.limiter.specs.Limiter.{isDuration, sampled, withSettings}
+use Rattle.limiter.specs.Limiter.{isDuration, sampledPower, withSettings}
 use Rattle.logs.specs.Lists.{appended, emptied}
 use Rattle.calls.specs.declared.Call.{Call}
 use Rattle.calls.specs.declared.Call.the-variants.{Sample, RemoteDisconnect, RemoteReconnect, ManualDisconnect, ManualReconnect, SetMode, SetLimiter, SetClock, Event, SetAlarmFilter, SetErrorFilter, ClearAlarms, ClearErrors, ClearLog, Script}
@@ -84,7 +84,7 @@ afterSample s w =
 -- a sample: the clock, then the limiter, then what it fires
 unfoldable pub sampleResult : Scalars → ℤ → Change
 sampleResult s p =
-    let w = sampled (s .limiter) p in
+    let w = sampledPower (s .limiter) p in
     afterSample (withLimiter (withClock s (held (s .clock + 1))) (w .limiter)) w
 
 -- ---- call 6: '1 | mode above 6'; 'Accepting mode 0 sets switch 1 and, if it was not 1, logs 63'
@@ -109,7 +109,7 @@ clockResult s n =
     owing (withErrors (withClock s n) (cleared (s .errors) 1)) 1 (line (s .clock) 4 ∷ line n 5 ∷ [])
 
 -- ---- call 9: '6 | code not listed'; 'one line in its log, then its bits'
-abbrev pub reported : Scalars → Row → Change
+abbrev pub reported : Scalars → EventRow → Change
 reported s r =
     owing
     (withErrors (withAlarms s (raised (s .alarms) (mask (r .alarm)))) (raised (s .errors) (mask (r .error))))
@@ -117,12 +117,12 @@ reported s r =
     (lineNow s (r .code) ∷ [])
 
 -- what the table lists for its code
-abbrev pub occurring : Scalars → Option Row → Result
+abbrev pub occurring : Scalars → Option EventRow → Result
 occurring s none = refusing 6
 occurring s (some r) = making (reported s r)
 
 -- an event by its code
-unfoldable pub eventResult : List Row → Scalars → ℕ → Result
+unfoldable pub eventResult : List EventRow → Scalars → ℕ → Result
 eventResult rows s c = occurring s (lookup rows c)
 
 -- ---- call 14: '7 | log not 1–3'; 'it then holds one line 255'
@@ -140,7 +140,7 @@ scriptResult s n =
     (refusing 3))
 
 -- the fifteen calls
-abbrev pub result : List Row → Scalars → Call → Result
+abbrev pub result : List EventRow → Scalars → Call → Result
 result rows s (Sample p) = making (sampleResult s p)
 result rows s RemoteDisconnect = requestResult s request.RemoteDisconnect
 result rows s RemoteReconnect = requestResult s request.RemoteReconnect
@@ -158,23 +158,29 @@ result rows s (ClearLog n) = clearLogResult s n
 result rows s (Script n) = scriptResult s n
 
 -- the values after a change
-abbrev pub after : State → Change → State
-after v k = record { scalars = k .scalars; logs = appended (k .log) (k .lines) (emptied (k .cleared) (v .logs)) }
+abbrev pub valuesAfter : State → Change → State
+valuesAfter v k = record { scalars = k .scalars; logs = appended (k .log) (k .lines) (emptied (k .cleared) (v .logs)) }
 
 -- what a call makes of a sound record: refused, it is the one that came in
 abbrev pub carriedOut : Meter → Result → Outcome
 carriedOut m (refusing n) = record { meter = m; answer = Refused n }
-carriedOut m (making k) = record { meter = recordOf (after (stateOf m) k); answer = Accepted }
+carriedOut m (making k) = record { meter = recordOf (valuesAfter (stateOf m) k); answer = Accepted }
 
 -- a call on a record: 'record | 12 | not sound; every call', which comes back as it was
-unfoldable pub applied : List Row → Meter → Call → Outcome
+unfoldable pub applied : List EventRow → Meter → Call → Outcome
 applied rows m c = cond (soundMeter rows m) (carriedOut m (result rows (scalarsOf m) c)) (record { meter = m; answer = Refused 12 })
 
 -- 'kind | 13 | not 1–15; the command's reading fails before the record is touched'
-abbrev pub performed : List Row → Meter → Parsed → Outcome
+abbrev pub performed : List EventRow → Meter → Parsed → Outcome
 performed rows m (Ok c) = applied rows m c
 performed rows m NoKind = record { meter = m; answer = Refused 13 }
 
 -- a command of a kind and five numbers
-unfoldable pub commanded : List Row → Meter → ℕ → ℕ → ℕ → ℕ → ℕ → ℕ → Outcome
+unfoldable pub commanded : List EventRow → Meter → ℕ → ℕ → ℕ → ℕ → ℕ → ℕ → Outcome
 commanded rows m k n1 n2 n3 n4 n5 = performed rows m (callOf k n1 n2 n3 n4 n5)
+
+-- 'Its first call gets the fresh meter, each next one the record that the call before handed back, accepted or refused': the record after calls, in
+-- their order
+unfoldable pub recordAfter : List EventRow → Meter → List Call → Meter
+recordAfter rows m [] = m
+recordAfter rows m (c ∷ cs) = recordAfter rows (applied rows m c .meter) cs

@@ -3,9 +3,9 @@ use Prim.Native.Nat.{ℕ, _-_}
 use mathlib.Core.Bool.{cond}
 use mathlib.Core.List.{List, [], _++_, map}
 use lib.ListN.{length, replicate}
-use Rattle.events.specs.Table.{Row}
+use Rattle.events.specs.Table.{EventRow}
 use Rattle.logs.specs.declared.Logs.{Logs}
-use Rattle.logs.specs.Layout.{clockOf, codeOf, extendedArrays, zeroedArrays}
+use Rattle.logs.specs.Layout.{lineClock, lineCode, extendedArrays, zeroedArrays}
 use Rattle.calls.specs.declared.Call.{Call}
 use Rattle.calls.specs.declared.Answer.the-variants.{Accepted, Refused}
 use Rattle.calls.specs.declared.Parsed.{Parsed}
@@ -33,8 +33,8 @@ stepFor k =
       cleared = k .cleared;
       log = k .log;
       count = length (k .lines);
-      clocks = inTwo (map clockOf (k .lines));
-      codes = inTwo (map codeOf (k .lines));
+      clocks = inTwo (map lineClock (k .lines));
+      codes = inTwo (map lineCode (k .lines));
     }
 
 -- a result as the code has it: refused, the scalars are those that came in, and nothing is owed
@@ -48,7 +48,7 @@ outcomeOf a counts clocks codes = record { meter = withLogs (a .scalars) counts 
 
 -- the arrays of the logs after a change: the clear, then the lines
 abbrev pub arraysAfter : Logs → Change → Logs
-arraysAfter g k = extendedArrays (k .log) (map clockOf (k .lines)) (map codeOf (k .lines)) (zeroedArrays (k .cleared) g)
+arraysAfter g k = extendedArrays (k .log) (map lineClock (k .lines)) (map lineCode (k .lines)) (zeroedArrays (k .cleared) g)
 
 -- the record of a change's scalars and those arrays; refused, the record that came in
 abbrev pub leftIn : Meter → Result → Outcome
@@ -58,13 +58,13 @@ leftIn m (making k) =
     record { meter = withLogs (k .scalars) (g .counts) (g .clocks) (g .codes); answer = Accepted }
 
 -- a call on a record in parts; of arrays of their types' lengths it is the machine's (see Laws)
-unfoldable pub appliedInParts : List Row → Meter → Call → Outcome
+unfoldable pub appliedInParts : List EventRow → Meter → Call → Outcome
 appliedInParts rows m c = cond (soundMeter rows m) (leftIn m (result rows (scalarsOf m) c)) (record { meter = m; answer = Refused 12 })
 
 -- a command on a record in parts
-abbrev pub performedInParts : List Row → Meter → Parsed → Outcome
+abbrev pub performedInParts : List EventRow → Meter → Parsed → Outcome
 performedInParts rows m (Ok c) = appliedInParts rows m c
 performedInParts rows m NoKind = record { meter = m; answer = Refused 13 }
 
-unfoldable pub commandedInParts : List Row → Meter → ℕ → ℕ → ℕ → ℕ → ℕ → ℕ → Outcome
+unfoldable pub commandedInParts : List EventRow → Meter → ℕ → ℕ → ℕ → ℕ → ℕ → ℕ → Outcome
 commandedInParts rows m k n1 n2 n3 n4 n5 = performedInParts rows m (callOf k n1 n2 n3 n4 n5)

@@ -2,7 +2,7 @@
 -- its own codes, and lines past its count are zero.' The ranges of 32 bits are held by the fields' types.
 use mathlib.Core.Bool.{Bool, _&&_}
 use mathlib.Core.List.{List}
-use Rattle.events.specs.Table.{Row}
+use Rattle.events.specs.Table.{EventRow}
 use Rattle.control.specs.Control.{soundControl}
 use Rattle.limiter.specs.Limiter.{soundLimiter}
 use Rattle.logs.specs.Lists.{soundLists}
@@ -16,9 +16,9 @@ unfoldable pub soundScalars : Scalars → Bool
 soundScalars s = soundControl (s .control) && soundLimiter (s .limiter)
 
 -- of a record
-unfoldable pub soundMeter : List Row → Meter → Bool
+unfoldable pub soundMeter : List EventRow → Meter → Bool
 soundMeter rows m = soundScalars (scalarsOf m) && soundLogs rows (m .logs)
 
 -- of its values
-unfoldable pub soundState : List Row → State → Bool
+unfoldable pub soundState : List EventRow → State → Bool
 soundState rows v = soundScalars (v .scalars) && soundLists rows (v .logs)

@@ -1,7 +1,7 @@
 // The fresh meter: the record that the first call of a history gets.
 ghost use mathlib.Core.Path.{_≡_};
 ghost use Rattle.meter.specs.State.{recordOf};
-ghost use Rattle.meter.specs.Fresh.{freshState, refusedOutcome, freshOf};
+ghost use Rattle.meter.specs.Fresh.{freshState, refusedOutcome, freshOf, FreshLaws};
 ghost use Rattle.meter.specs.Settings.{settingsOf};
 use crate::Meter;
 use crate::Outcome;
@@ -59,6 +59,7 @@ impl Meter {
     // 86,400.
     pub fn fresh(mode: u32, threshold: i32, over: u32, under: u32, clock: u32) -> Outcome
         ensures { λ r. ⌜ r ≡ freshOf (settingsOf mode threshold over under clock) ⌝ }
+        ensures laws { λ _. ⌜ FreshLaws ⌝ }
     {
         if 6 < mode {
             return Outcome::refused(1);

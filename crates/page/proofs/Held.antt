@@ -21,7 +21,7 @@ use Rattle.logs.specs.Layout.{Sized, soundLogs}
 use Rattle.calls.specs.Calls.{Word}
 use Rattle.meter.specs.declared.Meter.{Meter}
 use Rattle.meter.specs.Sound.{soundScalars, soundMeter}
-use Rattle.page.specs.Layout.{controlArea, limiterArea, registerArea, lineFormat, logArea, logsArea, linesAt, layout}
+use Rattle.page.specs.Layout.{controlArea, limiterArea, registerArea, lineFormat, logArea, logsArea, storedLines, layout}
 use Rattle.page.specs.Laws.{Typed}
 use Rattle.page.proofs.Lines.{length-lines}
 use Rattle.page.proofs.Threshold.{threshold-held}
@@ -59,13 +59,13 @@ limiter-held l e =
 register-held : (r : Register) → Word (r .bits) → Word (r .filter) → registerArea .Holds r
 register-held r bits filter = ((omega arith, omega arith), tt)
 
-lines-held : (k at : ℕ) (ts cs : List ℕ) → ((i : ℕ) → getD ts i 0 < 256 ^ 4) → ((i : ℕ) → getD cs i 0 < 256 ^ 1) → AllHold lineFormat (linesAt k at ts cs)
-unfolding linesAt
+lines-held : (k at : ℕ) (ts cs : List ℕ) → ((i : ℕ) → getD ts i 0 < 256 ^ 4) → ((i : ℕ) → getD cs i 0 < 256 ^ 1) → AllHold lineFormat (storedLines k at ts cs)
+unfolding storedLines
 lines-held zero at ts cs t c = tt
 lines-held (suc k) at ts cs t c = (((t at, c at), tt), lines-held k (suc at) ts cs t c)
 
 module _ (g : Logs) (n : (i : ℕ) → getD (g .counts) i 0 < 256 ^ 1) (t : (i : ℕ) → getD (g .clocks) i 0 < 256 ^ 4) (c : (i : ℕ) → getD (g .codes) i 0 < 256 ^ 1) where
-  log-held : (i at : ℕ) → logArea .Holds (getD (g .counts) i 0, linesAt 32 at (g .clocks) (g .codes))
+  log-held : (i at : ℕ) → logArea .Holds (getD (g .counts) i 0, storedLines 32 at (g .clocks) (g .codes))
   log-held i at = (n i, (length-lines 32 at (g .clocks) (g .codes), lines-held 32 at (g .clocks) (g .codes) t c))
 
   logs-held : Sized g → logsArea .Holds g

@@ -7,11 +7,12 @@ use Prim.Native.Nat.{ℕ, zero, suc, _-_, _*_, _≤_}
 use native.Mathlib.Nat.{suc-mul}
 use native.Mathlib.Omega.{arith}
 use lib.ListN.{length, replicate, length-append, length-map, length-replicate}
-use Rattle.codec.specs.Format.{be, encs}
+use Rattle.codec.specs.BigEndian.{be}
+use Rattle.codec.specs.Format.{encs}
 use Rattle.events.specs.Line.{Line, line}
 use Rattle.events.specs.Table.{builtIn}
 use Rattle.events.proofs.Rule.{built-in-lawful}
-use Rattle.logs.specs.Layout.{clockOf, codeOf, padded, flat, laid}
+use Rattle.logs.specs.Layout.{lineClock, lineCode, padded, flat, laid}
 use Rattle.logs.proofs.Kept.{lists-length, lists-short}
 use Rattle.logs.proofs.Places.{Short, none, more}
 use Rattle.calls.specs.declared.Call.{Call}
@@ -20,12 +21,13 @@ use Rattle.history.specs.Effects.{Fresh}
 use Rattle.history.specs.Account.{Account, account}
 use Rattle.meter.specs.State.{recordOf}
 use Rattle.meter.specs.Sound.{soundState}
-use Rattle.meter.specs.Fresh.{Settings, holding}
+use Rattle.meter.specs.Fresh.{Settings}
+use Rattle.meter.specs.Holding.{holding}
 use Rattle.meter.proofs.Values.{logs-sound}
 use Rattle.meter.proofs.Simulates.{named-sound}
 use Rattle.meter.proofs.Laws.{turned}
 use Rattle.page.specs.Layout.{controlArea, limiterArea, clockArea, registerArea, lineFormat, logArea, logsArea, areasOf, ofAreas, layout, directory, pageOf}
-use Rattle.page.specs.AccountPage.{printedPairs, fields, lineBytes, logBytes, accountPage}
+use Rattle.page.specs.AccountPage.{printedPairs, fields, logLineBytes, logBytes, accountPage}
 use Rattle.page.proofs.Lines.{encs-append}
 use Rattle.page.proofs.Inverse.{three-back}
 
@@ -51,7 +53,7 @@ column-filled f e xs = rw (length-map, map-append, map-zeros f e (32 - length xs
 laid-areas : (x y z : List Line) → laid (x ∷ y ∷ z ∷ []) ≡ ofAreas (area x ∷ area y ∷ area z ∷ [])
 unfolding laid ofAreas flat flatMap
 laid-areas x y z =
-    rw (column-filled clockOf refl x, column-filled clockOf refl y, column-filled clockOf refl z, column-filled codeOf refl x, column-filled codeOf refl y, column-filled codeOf refl z)
+    rw (column-filled lineClock refl x, column-filled lineClock refl y, column-filled lineClock refl z, column-filled lineCode refl x, column-filled lineCode refl y, column-filled lineCode refl z)
 
 zero-lines : (k : ℕ) → encs lineFormat (replicate k (line 0 0)) ≡ replicate (k * 5) 0
 unfolding flatMap be

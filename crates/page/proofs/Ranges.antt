@@ -14,14 +14,14 @@ use Rattle.base.proofs.Bits.{number-lt}
 use Rattle.base.proofs.Every.{every-first, every-rest, every-append, every-drop}
 use Rattle.codec.proofs.Numbers.{pow-pos}
 use Rattle.events.specs.Line.{Line, line, isLog, newest}
-use Rattle.events.specs.Table.{Row, position, lawful, builtIn}
+use Rattle.events.specs.Table.{EventRow, position, lawful, builtIn}
 use Rattle.events.proofs.Rule.{built-in-lawful}
-use Rattle.logs.specs.Layout.{clockOf as lineClock, codeOf, padded, flat, laid}
+use Rattle.logs.specs.Layout.{lineClock as lineClock, lineCode, padded, flat, laid}
 use Rattle.logs.proofs.Places.{Short, none as noLog, more as moreLogs}
 use Rattle.logs.proofs.Kept.{lists-short}
 use Rattle.calls.specs.declared.Call.{Call}
 use Rattle.calls.specs.Calls.{Word, AllInRange}
-use Rattle.history.specs.Effects.{Fresh, Request, remoteDisconnect, remoteReconnect, manualDisconnect, manualReconnect, Register, alarms, errors, Effect, sampled, requested, modeSet, limitsSet, clockSet, occurred, filterSet, bitsCleared, logCleared}
+use Rattle.history.specs.Effects.{Fresh, RequestCall, remoteDisconnect, remoteReconnect, manualDisconnect, manualReconnect, WhichRegister, alarms, errors, Effect, sampled, requested, modeSet, limitsSet, clockSet, occurred, filterSet, bitsCleared, logCleared}
 use Rattle.history.specs.Last.{History, modeOf, clockOf}
 use Rattle.history.specs.Limiter.{firesOver, firesUnder}
 use Rattle.history.specs.Switch.{switchOf}
@@ -30,7 +30,8 @@ use Rattle.history.specs.Logs.{when, moves, requestCode, clearCode, owedBy, cle
 use Rattle.history.specs.Account.{acceptedCalls, accountAfter}
 use Rattle.meter.specs.Sound.{soundState}
 use Rattle.meter.specs.State.{State, recordOf}
-use Rattle.meter.specs.Fresh.{Settings, holding}
+use Rattle.meter.specs.Fresh.{Settings}
+use Rattle.meter.specs.Holding.{holding}
 use Rattle.meter.proofs.Effects.{Proper, AllProper, none, more}
 use Rattle.meter.proofs.Ranges.{filter-word}
 use Rattle.meter.proofs.Values.{logs-sound, record-sized}
@@ -69,7 +70,7 @@ module _ (f : Fresh) where
   fired-fits e h fires c d k l =
       when-fits fires _ (more-fit (e ∷ h) c _ k (when-fits (moves f e h) _ (one-fits (e ∷ h) d l)))
 
-  request-byte : (q : Request) (to : ℕ) → ltb (requestCode q to) 256 ≡ true
+  request-byte : (q : RequestCall) (to : ℕ) → ltb (requestCode q to) 256 ≡ true
   request-byte remoteDisconnect to = refl
   request-byte remoteReconnect to = go (eqb to 1)
     where
@@ -79,11 +80,11 @@ module _ (f : Fresh) where
   request-byte manualDisconnect to = refl
   request-byte manualReconnect to = refl
 
-  row-byte : (r : Row) → lawful r ≡ true → ltb (r .code) 256 ≡ true
+  row-byte : (r : EventRow) → lawful r ≡ true → ltb (r .code) 256 ≡ true
   unfolding lawful
   row-byte r e = and-right (isLog (r .log)) (ltb (r .code) 256) (and-left (isLog (r .log) && ltb (r .code) 256) (position (r .alarm) && position (r .error)) e)
 
-  clear-byte : (s : Register) → ltb (clearCode s) 256 ≡ true
+  clear-byte : (s : WhichRegister) → ltb (clearCode s) 256 ≡ true
   clear-byte alarms = refl
   clear-byte errors = refl
 
@@ -166,7 +167,7 @@ module _ (f : Fresh) (t : Settings f) (cs : List Call) (r : AllInRange cs) where
   unfolding every
   lines-fit = rw (log-fits f 1 h proper, log-fits f 2 h proper, log-fits f 3 h proper)
 
-  bits-word : (s : Register) → Word (bitsOf s h)
+  bits-word : (s : WhichRegister) → Word (bitsOf s h)
   bits-word s = omega (arith, number-lt 32 (λ b. stands s b h))
 
   pub account-typed : Typed (recordOf v)
@@ -182,5 +183,5 @@ module _ (f : Fresh) (t : Settings f) (cs : List Call) (r : AllInRange cs) where
         logs = record-sized builtIn v sound;
         counts = counts-fit (lists-short builtIn (v .logs) (logs-sound builtIn v sound));
         clocks = λ i. omega (arith, fit-flat 4 lineClock clock-fits (v .logs) lines-fit i);
-        codes = fit-flat 1 codeOf code-fits (v .logs) lines-fit;
+        codes = fit-flat 1 lineCode code-fits (v .logs) lines-fit;
       }

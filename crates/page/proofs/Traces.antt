@@ -2,41 +2,35 @@
 -- Assumes nothing.
 use mathlib.Core.Path.{_≡_, refl, sym, ap, _∙_}
 use mathlib.Core.Bool.{true}
-use mathlib.Core.List.{List, [], _∷_, reverse, reverseAux}
+use mathlib.Core.List.{List, [], reverse}
 use Prim.Native.Nat.{ℕ, _≤_}
 use native.Mathlib.Omega.{arith}
 use lib.ListN.{length, take, replicate}
 use borrow.Author.Tests.{le-leb}
 use Rattle.events.specs.Table.{builtIn}
-use Rattle.calls.specs.declared.Call.{Call}
 use Rattle.calls.specs.declared.Answer.{Answer}
 use Rattle.calls.specs.declared.Answer.the-variants.{Accepted}
-use Rattle.history.specs.Effects.{Fresh}
 use Rattle.history.specs.Account.{Account}
 use Rattle.meter.specs.declared.Meter.{Meter}
 use Rattle.meter.specs.State.{State, stateOf, recordOf}
 use Rattle.meter.specs.Sound.{soundMeter, soundState}
-use Rattle.meter.specs.Fresh.{Settings, holding, recordAfter}
+use Rattle.meter.specs.Machine.{recordAfter}
+use Rattle.meter.specs.Fresh.{Settings}
+use Rattle.meter.specs.Holding.{holding}
 use Rattle.meter.proofs.Accepting.{fresh-laws}
 use Rattle.meter.proofs.Laws.{built-in, turned}
 use Rattle.meter.proofs.Values.{record-sound}
 use Rattle.meter.proofs.Simulates.{named-sound}
 use Rattle.events.proofs.Rule.{built-in-lawful}
-use Rattle.page.specs.Layout.{size, pageOf, writeAnswer, written, accepted, readOf}
+use Rattle.page.specs.Layout.{size, pageOf, writeAnswer, written, acceptedOutcome, readOf}
 use Rattle.page.specs.Laws.{Typed}
 use Rattle.page.specs.Examples.{worked, unused, Examples}
 use Rattle.page.proofs.Example.{worked-page, distinct-page}
 use Rattle.page.specs.AccountPage.{accountPage}
-use Rattle.page.specs.Demand3.{Trace, recordFrom, lastRecord, pageAfter, accountOf, Demand3}
+use Rattle.page.specs.Demand3.{Trace, lastRecord, pageAfter, traceAccount, Demand3}
 use Rattle.page.proofs.RoundTrip.{laws}
 use Rattle.page.proofs.Ranges.{account-typed}
 use Rattle.page.proofs.Printed.{list-written}
-
--- the calls in their order, on the record that those before left
-pub record-from : (f : Fresh) (before calls : List Call) → recordFrom (recordAfter builtIn f before) calls ≡ recordAfter builtIn f (reverseAux calls before)
-unfolding recordFrom recordAfter
-record-from f before [] = refl
-record-from f before (c ∷ calls) = record-from f (c ∷ before) calls
 
 -- an account is the one whose values it names
 abbrev named : State → Account
@@ -63,25 +57,23 @@ module _ (t : Trace) where
   settings = fresh-laws .accepted-settings (t .settings) (t .settings-in-range) (t .accepted)
 
   -- the record is the one that holds the account
-  pub last-record : lastRecord t ≡ recordOf (holding (accountOf t))
-  unfolding recordAfter
+  pub last-record : lastRecord t ≡ recordOf (holding (traceAccount t))
   last-record =
-      ap (λ (m : Meter). recordFrom m (t .calls)) (fresh-laws .accepted-meter (t .settings) (t .accepted))
-      ∙ record-from (t .settings) [] (t .calls)
+      ap (λ (m : Meter). recordAfter builtIn m (t .calls)) (fresh-laws .accepted-meter (t .settings) (t .accepted))
       ∙ built-in .simulates (t .settings) (t .calls) settings (t .calls-in-range)
 
   -- its values are sound, and its numbers values of their types
-  values-sound : soundState builtIn (holding (accountOf t)) ≡ true
+  values-sound : soundState builtIn (holding (traceAccount t)) ≡ true
   values-sound = named-sound builtIn built-in-lawful (t .settings) settings (reverse (t .calls)) (turned (t .calls) [] (t .calls-in-range) tt)
 
-  typed : Typed (recordOf (holding (accountOf t)))
+  typed : Typed (recordOf (holding (traceAccount t)))
   typed = account-typed (t .settings) settings (reverse (t .calls)) (turned (t .calls) [] (t .calls-in-range) tt)
 
-  record-is-sound : soundMeter builtIn (recordOf (holding (accountOf t))) ≡ true
-  record-is-sound = record-sound builtIn (holding (accountOf t)) values-sound
+  record-is-sound : soundMeter builtIn (recordOf (holding (traceAccount t))) ≡ true
+  record-is-sound = record-sound builtIn (holding (traceAccount t)) values-sound
 
   -- and its page is the one that document 01 prints of the account
-  printed : accountPage (accountOf t) ≡ pageOf (recordOf (holding (accountOf t)))
+  printed : accountPage (traceAccount t) ≡ pageOf (recordOf (holding (traceAccount t)))
   printed = list-written (t .settings) (t .calls) settings (t .calls-in-range)
 
   last-sound : soundMeter builtIn (lastRecord t) ≡ true
@@ -92,15 +84,15 @@ module _ (t : Trace) where
     unfolding writeAnswer
     page-accepted = rw (last-sound, le-leb size (length out) room)
 
-    page-held : pageAfter t out ≡ accountPage (accountOf t)
+    page-held : pageAfter t out ≡ accountPage (traceAccount t)
     page-held = laws .accepted-page (lastRecord t) out page-accepted ∙ ap pageOf last-record ∙ sym printed
 
 -- two accounts with one page are one account
-pub same-account : (s t : Trace) → accountPage (accountOf s) ≡ accountPage (accountOf t) → accountOf s ≡ accountOf t
+pub same-account : (s t : Trace) → accountPage (traceAccount s) ≡ accountPage (traceAccount t) → traceAccount s ≡ traceAccount t
 same-account s t e =
-    let records = laws .injective (recordOf (holding (accountOf s))) (recordOf (holding (accountOf t))) (typed s) (typed t) (record-is-sound s) (record-is-sound t) (sym (printed s) ∙ e ∙ printed t) in
-    let values : holding (accountOf s) ≡ holding (accountOf t) =
-    sym (built-in .state-of-record (holding (accountOf s)) (values-sound s)) ∙ ap stateOf records ∙ built-in .state-of-record (holding (accountOf t)) (values-sound t) in
+    let records = laws .injective (recordOf (holding (traceAccount s))) (recordOf (holding (traceAccount t))) (typed s) (typed t) (record-is-sound s) (record-is-sound t) (sym (printed s) ∙ e ∙ printed t) in
+    let values : holding (traceAccount s) ≡ holding (traceAccount t) =
+    sym (built-in .state-of-record (holding (traceAccount s)) (values-sound s)) ∙ ap stateOf records ∙ built-in .state-of-record (holding (traceAccount t)) (values-sound t) in
     ap named values
 
 pub demand-3 : Demand3
@@ -127,5 +119,5 @@ examples =
 
 -- what the writer promises, by what it answers and leaves
 pub writer-promises : (m : Meter) (out : List ℕ) (a : Answer) (left : List ℕ) → Typed m → (a ≡ writeAnswer m out) × (left ≡ written m out)
-    → ((a ≡ writeAnswer m out) × (left ≡ written m out)) × ((a ≡ Accepted → readOf (take size left) ≡ accepted m) × Demand3)
+    → ((a ≡ writeAnswer m out) × (left ≡ written m out)) × ((a ≡ Accepted → readOf (take size left) ≡ acceptedOutcome m) × Demand3)
 writer-promises m out a left t e = (e, (λ h. rw (e .1) (laws .read-written m out t (sym (e .0) ∙ h)), demand-3))

@@ -5,7 +5,7 @@ use mathlib.Core.List.{List, [], _∷_, _++_, flatMap}
 use Prim.Native.Nat.{ℕ, _-_, _*_}
 use lib.IntN.{natAbs}
 use lib.ListN.{length, replicate}
-use Rattle.codec.specs.Format.{be}
+use Rattle.codec.specs.BigEndian.{be}
 use Rattle.events.specs.Line.{Line}
 use Rattle.history.specs.Account.{Account}
 
@@ -25,12 +25,12 @@ fields a =
     ∷ []
 
 -- 'lines of clock 4, code 1'
-abbrev pub lineBytes : Line → List ℕ
-lineBytes l = be 4 (l .clock) ++ be 1 (l .code)
+abbrev pub logLineBytes : Line → List ℕ
+logLineBytes l = be 4 (l .clock) ++ be 1 (l .code)
 
 -- 'the logs, each a count byte and 32 lines', zero 'where the account has nothing to put'
 unfoldable pub logBytes : List Line → List ℕ
-logBytes ls = be 1 (length ls) ++ (flatMap lineBytes ls ++ replicate ((32 - length ls) * 5) 0)
+logBytes ls = be 1 (length ls) ++ (flatMap logLineBytes ls ++ replicate ((32 - length ls) * 5) 0)
 
 -- '558 bytes'
 abbrev pub pageLength : ℕ

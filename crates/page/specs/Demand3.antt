@@ -1,7 +1,7 @@
 -- Demand 3: 'For every two lists of the fifteen calls .., one from each meter, the page after the one equals the page after the other exactly when
 -- the accounts of the two histories are equal. Each page holds its own account, byte for byte by the layout.'
 use mathlib.Core.Path.{_≡_}
-use mathlib.Core.List.{List, [], _∷_}
+use mathlib.Core.List.{List}
 use Prim.Native.Nat.{ℕ, _≤_}
 use lib.ListN.{length, take}
 use Rattle.events.specs.Table.{builtIn}
@@ -11,7 +11,7 @@ use Rattle.calls.specs.Calls.{AllInRange}
 use Rattle.history.specs.Effects.{Fresh}
 use Rattle.history.specs.Account.{Account, account}
 use Rattle.meter.specs.declared.Meter.{Meter}
-use Rattle.meter.specs.Machine.{applied}
+use Rattle.meter.specs.Machine.{recordAfter}
 use Rattle.meter.specs.Fresh.{freshOf, SettingsInRange}
 use Rattle.page.specs.Layout.{writeAnswer, written}
 use Rattle.page.specs.AccountPage.{pageLength, accountPage}
@@ -24,22 +24,17 @@ pub record Trace : Type 0 where
   pub settings-in-range : SettingsInRange settings
   pub calls-in-range : AllInRange calls
 
--- '.. each next one the record that the call before handed back, accepted or refused ..'
-unfoldable pub recordFrom : Meter → List Call → Meter
-recordFrom m [] = m
-recordFrom m (c ∷ cs) = recordFrom (applied builtIn m c .meter) cs
-
--- 'Its first call gets the fresh meter ..': the last record is 'the fresh meter if the list is empty'
+-- 'the last record (the fresh meter if the list is empty)'
 abbrev pub lastRecord : Trace → Meter
-lastRecord t = recordFrom (freshOf (t .settings) .meter) (t .calls)
+lastRecord t = recordAfter builtIn (freshOf (t .settings) .meter) (t .calls)
 
 -- 'A list's page is what an accepted writer, given the last record .., puts into the buffer over the page's length.'
 abbrev pub pageAfter : Trace → List ℕ → List ℕ
 pageAfter t out = take pageLength (written (lastRecord t) out)
 
 -- 'The account comes from the fresh settings and the list alone'
-abbrev pub accountOf : Trace → Account
-accountOf t = account builtIn (t .settings) (t .calls)
+abbrev pub traceAccount : Trace → Account
+traceAccount t = account builtIn (t .settings) (t .calls)
 
 -- what is claimed of two traces and the two buffers that their pages are written into
 pub record Compared (s t : Trace) (out out′ : List ℕ) : Type 0 where
@@ -47,11 +42,11 @@ pub record Compared (s t : Trace) (out out′ : List ℕ) : Type 0 where
   pub first-accepted : writeAnswer (lastRecord s) out ≡ Accepted
   pub second-accepted : writeAnswer (lastRecord t) out′ ≡ Accepted
   -- 'Each page holds its own account, byte for byte by the layout.'
-  pub first-page : pageAfter s out ≡ accountPage (accountOf s)
-  pub second-page : pageAfter t out′ ≡ accountPage (accountOf t)
+  pub first-page : pageAfter s out ≡ accountPage (traceAccount s)
+  pub second-page : pageAfter t out′ ≡ accountPage (traceAccount t)
   -- 'the page after the one equals the page after the other exactly when the accounts of the two histories are equal'
-  pub same-account : pageAfter s out ≡ pageAfter t out′ → accountOf s ≡ accountOf t
-  pub same-page : accountOf s ≡ accountOf t → pageAfter s out ≡ pageAfter t out′
+  pub same-account : pageAfter s out ≡ pageAfter t out′ → traceAccount s ≡ traceAccount t
+  pub same-page : traceAccount s ≡ traceAccount t → pageAfter s out ≡ pageAfter t out′
 
 -- 'a single claim about two whole lists'; the buffers are long enough for a page
 abbrev pub Demand3 : Type 0

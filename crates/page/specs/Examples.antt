@@ -9,28 +9,28 @@ use lib.ListN.{replicate}
 use Rattle.events.specs.Line.{line}
 use Rattle.calls.specs.declared.Answer.the-variants.{Accepted}
 use Rattle.history.specs.Account.{Account}
-use Rattle.history.specs.Examples.{bench, benchCalls}
+use Rattle.history.specs.Examples.{exampleSettings, exampleCalls}
 use Rattle.meter.specs.Settings.{freshAnswer}
 use Rattle.meter.specs.Fresh.{freshOf, SettingsInRange}
 use Rattle.page.specs.Layout.{size}
 use Rattle.page.specs.AccountPage.{accountPage}
-use Rattle.page.specs.Demand3.{Trace, accountOf, Compared}
+use Rattle.page.specs.Demand3.{Trace, traceAccount, Compared}
 
 -- fresh accepts (5, 3000, 2, 3, 1000)
-pub bench-accepted : freshOf bench .answer ≡ Accepted
+pub bench-accepted : freshOf exampleSettings .answer ≡ Accepted
 unfolding freshAnswer
 bench-accepted = refl
 
 -- its numbers are values of their types
-pub bench-in-range : SettingsInRange bench
+pub bench-in-range : SettingsInRange exampleSettings
 bench-in-range = record { threshold = (refl, refl); clock = omega arith }
 
 -- the worked example
 abbrev pub worked : Trace
 worked =
     record {
-      settings = bench;
-      calls = benchCalls;
+      settings = exampleSettings;
+      calls = exampleCalls;
       accepted = bench-accepted;
       settings-in-range = bench-in-range;
       calls-in-range =
@@ -39,7 +39,7 @@ worked =
 
 -- its settings and no call
 abbrev pub unused : Trace
-unused = record { settings = bench; calls = []; accepted = bench-accepted; settings-in-range = bench-in-range; calls-in-range = tt }
+unused = record { settings = exampleSettings; calls = []; accepted = bench-accepted; settings-in-range = bench-in-range; calls-in-range = tt }
 
 -- a log without lines: its count, and the zeros of 32 lines
 abbrev pub noLines : List ℕ
@@ -109,7 +109,7 @@ distinctBytes =
 -- the two pages, and demand 3 of the two traces
 pub record Examples : Type 0 where
   -- the account of the worked example, in the page's layout
-  pub worked-page : accountPage (accountOf worked) ≡ workedBytes
+  pub worked-page : accountPage (traceAccount worked) ≡ workedBytes
   -- each field stands where document 01 says, and nowhere else
   pub distinct-page : accountPage distinct ≡ distinctBytes
   -- two traces, each with a buffer that is long enough: what demand 3 speaks of is there

@@ -3,7 +3,7 @@
 -- Assumes nothing.
 use mathlib.Core.Path.{_≡_, refl, sym, ap, _∙_}
 use mathlib.Core.Bool.{Bool, true, false, _&&_, cond}
-use mathlib.Core.List.{List, [], _∷_, append-nil, reverseAux}
+use mathlib.Core.List.{List, [], _∷_, _++_, append-nil, reverse}
 use Prim.Native.Nat.{ℕ}
 use native.Mathlib.Omega.{arith}
 use lib.Dec.{eqb, leb}
@@ -11,43 +11,41 @@ use lib.ListN.{length, drop-of-length-le}
 use borrow.Author.Tests.{le-leb}
 use Rattle.codec.specs.Lawful.{Bytes}
 use Rattle.events.specs.Table.{builtIn}
-use Rattle.events.proofs.Rule.{built-in-lawful}
 use Rattle.logs.specs.Layout.{Sized}
 use Rattle.calls.specs.declared.Call.{Call}
 use Rattle.calls.specs.declared.Answer.{Answer}
 use Rattle.calls.specs.declared.Answer.the-variants.{Accepted, Refused}
 use Rattle.calls.specs.declared.Parsed.{Parsed}
 use Rattle.calls.specs.declared.Parsed.the-variants.{Ok, NoKind}
-use Rattle.calls.specs.Calls.{answerNumber, AllInRange}
+use Rattle.calls.specs.Calls.{answerNumber, InRange, AllInRange}
 use Rattle.history.specs.Effects.{Fresh}
 use Rattle.history.specs.Account.{account}
 use Rattle.meter.specs.declared.Meter.{Meter}
 use Rattle.meter.specs.declared.Outcome.{Outcome}
 use Rattle.meter.specs.State.{recordOf}
 use Rattle.meter.specs.Sound.{soundMeter}
-use Rattle.meter.specs.Machine.{performed, commanded}
-use Rattle.meter.specs.Fresh.{Settings, SettingsInRange, freshState, freshOf, refusedOutcome, recordAfter}
+use Rattle.meter.specs.Machine.{applied, performed, commanded, recordAfter}
+use Rattle.meter.specs.Fresh.{Settings, SettingsInRange, freshState, freshOf, refusedOutcome}
 use Rattle.meter.proofs.Accepting.{fresh-laws}
+use Rattle.meter.proofs.Laws.{turned}
 use Rattle.meter.proofs.Laws as meter
-use Rattle.meter.proofs.Preserved.{run-sound}
-use Rattle.meter.proofs.Simulates.{simulates}
-use Rattle.page.specs.Layout.{layout, start, size, pageOf, writeAnswer, written, accepted, hasPairs, meterIn, holdsSound, readOf}
+use Rattle.page.specs.Layout.{layout, start, size, pageOf, writeAnswer, written, acceptedOutcome, hasPairs, meterIn, holdsSound, readOf}
 use Rattle.page.specs.Laws.{Typed}
 use Rattle.page.specs.AccountPage.{accountPage}
 use Rattle.page.proofs.RoundTrip as roundtrip
 use Rattle.page.proofs.Ranges.{account-typed}
 use Rattle.page.proofs.Printed.{list-written}
 use Rattle.replay.specs.declared.Record.{Record}
-use Rattle.replay.specs.Replay.{parsedIn, withCall, callsIn, nextOf}
-use Rattle.pillar.specs.Interface.{unlessRefused, unlessRefusedBytes, keptAnswer, keptPage, outcomeOn, callAnswer, callPage}
+use Rattle.replay.specs.Replay.{parsedIn, withCall, callsIn, nextOf, meterAfter}
+use Rattle.pillar.specs.Interface.{numberOr, bytesOr, keptNumber, keptPage, outcomeOn, callNumber, callPage}
 use Rattle.pillar.proofs.Kept.{kept-refused}
-use Rattle.pillar.specs.Laws.{freshPageOf, callAnswerOf, callPageOf, callPages, Laws}
+use Rattle.pillar.specs.Laws.{freshPageOf, callNumberOf, callPageOf, callPages, Laws}
 
 -- ---- a sound record goes to the writer
 
 kept-answer : (o : Outcome) (page : List ℕ) → (o .answer ≡ Accepted → soundMeter builtIn (o .meter) ≡ true)
-    → keptAnswer o page ≡ unlessRefused (o .answer) (cond (leb size (length page)) 0 8)
-unfolding keptAnswer writeAnswer
+    → keptNumber o page ≡ numberOr (o .answer) (cond (leb size (length page)) 0 8)
+unfolding keptNumber writeAnswer
 kept-answer o page sound = go (o .answer) sound
   where
     fits : (b : Bool) → answerNumber (cond b Accepted (Refused 8)) ≡ cond b 0 8
@@ -55,8 +53,8 @@ kept-answer o page sound = go (o .answer) sound
     fits false = refl
 
     go : (a : Answer) → (a ≡ Accepted → soundMeter builtIn (o .meter) ≡ true)
-        → unlessRefused a (answerNumber (cond (soundMeter builtIn (o .meter)) (cond (leb size (length page)) Accepted (Refused 8)) (Refused 12)))
-        ≡ unlessRefused a (cond (leb size (length page)) 0 8)
+        → numberOr a (answerNumber (cond (soundMeter builtIn (o .meter)) (cond (leb size (length page)) Accepted (Refused 8)) (Refused 12)))
+        ≡ numberOr a (cond (leb size (length page)) 0 8)
     go Accepted s = rw (s refl) (fits (leb size (length page)))
     go (Refused n) s = refl
 
@@ -69,24 +67,24 @@ module _ (o : Outcome) (page : List ℕ) (whole : length page ≡ size) where
   kept-written e sound = rw (e, sound, full, drop-of-length-le page {i = size} (omega arith)) (append-nil (pageOf (o .meter)))
 
 -- on any number but 0 every byte stays
-kept-same : (o : Outcome) (page : List ℕ) → (keptAnswer o page ≡ 0 → ⊥) → keptPage o page ≡ page
-unfolding keptAnswer keptPage
+kept-same : (o : Outcome) (page : List ℕ) → (keptNumber o page ≡ 0 → ⊥) → keptPage o page ≡ page
+unfolding keptNumber keptPage
 kept-same o page some = go (o .answer) (writeAnswer (o .meter) page) refl some
   where
-    go : (a w : Answer) → writeAnswer (o .meter) page ≡ w → (unlessRefused a (answerNumber w) ≡ 0 → ⊥)
-        → unlessRefusedBytes a (written (o .meter) page) page ≡ page
+    go : (a w : Answer) → writeAnswer (o .meter) page ≡ w → (numberOr a (answerNumber w) ≡ 0 → ⊥)
+        → bytesOr a (written (o .meter) page) page ≡ page
     go Accepted Accepted e some = absurd (some refl)
     go Accepted (Refused n) e some = roundtrip.laws .refused-same (o .meter) page n e
     go (Refused n) w e some = refl
 
-call-same : (page : List ℕ) (r : Record) → (callAnswerOf page r ≡ 0 → ⊥) → callPageOf page r ≡ page
-unfolding callAnswer callPage
+call-same : (page : List ℕ) (r : Record) → (callNumberOf page r ≡ 0 → ⊥) → callPageOf page r ≡ page
+unfolding callNumber callPage
 call-same page r some = go (readOf page .answer) some
   where
     o : Outcome
     o = outcomeOn (readOf page .meter) (r .kind) (r .n1) (r .n2) (r .n3) (r .n4) (r .n5)
 
-    go : (a : Answer) → (unlessRefused a (keptAnswer o page) ≡ 0 → ⊥) → unlessRefusedBytes a (keptPage o page) page ≡ page
+    go : (a : Answer) → (numberOr a (keptNumber o page) ≡ 0 → ⊥) → bytesOr a (keptPage o page) page ≡ page
     go Accepted some = kept-same o page some
     go (Refused n) some = refl
 
@@ -94,7 +92,7 @@ call-same page r some = go (readOf page .answer) some
 
 -- the record of such a page, and its page
 record Read (page : List ℕ) (m : Meter) : Type 0 where
-  pub reads : readOf page ≡ accepted m
+  pub reads : readOf page ≡ acceptedOutcome m
   pub back : pageOf m ≡ page
   pub sound : soundMeter builtIn m ≡ true
   pub sized : Sized (m .logs)
@@ -112,21 +110,21 @@ module _ {page : List ℕ} {m : Meter} (k : Read page m) (r : Record) (i : AllIn
   whole : length page ≡ size
   whole = ap length (sym (k .back)) ∙ roundtrip.page-length m
 
-  answer-on : callAnswerOf page r ≡ answerNumber (nextOf m r .answer)
-  unfolding callAnswer
+  answer-on : callNumberOf page r ≡ answerNumber (nextOf m r .answer)
+  unfolding callNumber
   answer-on =
-      ap (λ (o : Outcome). unlessRefused (o .answer) (keptAnswer (nextOf (o .meter) r) page)) (k .reads)
+      ap (λ (o : Outcome). numberOr (o .answer) (keptNumber (nextOf (o .meter) r) page)) (k .reads)
       ∙ kept-answer (nextOf m r) page (λ e. next-sound)
       ∙ rw (full (nextOf m r) page whole) (go (nextOf m r .answer))
     where
-      go : (a : Answer) → unlessRefused a 0 ≡ answerNumber a
+      go : (a : Answer) → numberOr a 0 ≡ answerNumber a
       go Accepted = refl
       go (Refused n) = refl
 
   page-on : callPageOf page r ≡ pageOf (nextOf m r .meter)
   unfolding callPage
   page-on =
-      ap (λ (o : Outcome). unlessRefusedBytes (o .answer) (keptPage (nextOf (o .meter) r) page) page) (k .reads)
+      ap (λ (o : Outcome). bytesOr (o .answer) (keptPage (nextOf (o .meter) r) page) page) (k .reads)
       ∙ go (nextOf m r .answer) refl
     where
       o : Outcome
@@ -142,7 +140,7 @@ unfolding readOf holdsSound
 accepted-in s e = go (eqb (length s) size) (hasPairs s) (layout .valid s start) (soundMeter builtIn (meterIn s)) e
   where
     read : Bool → Bool → Bool → Bool → Outcome
-    read a b v d = cond a (cond b (cond (v && d) (accepted (meterIn s)) (refusedOutcome 11)) (refusedOutcome 10)) (refusedOutcome 9)
+    read a b v d = cond a (cond b (cond (v && d) (acceptedOutcome (meterIn s)) (refusedOutcome 11)) (refusedOutcome 10)) (refusedOutcome 9)
 
     go : (a b v d : Bool) → read a b v d .answer ≡ Accepted → (read a b v d .meter ≡ meterIn s) × (v ≡ true)
     go true true true true e = (refl, refl)
@@ -167,40 +165,54 @@ from-page s bytes e =
 
 -- ---- calls from an accepted fresh
 
+-- one call more, behind others
+behind : (m : Meter) (calls : List Call) (c : Call) → recordAfter builtIn m (calls ++ (c ∷ [])) ≡ applied builtIn (recordAfter builtIn m calls) c .meter
+unfolding recordAfter
+behind m [] c = refl
+behind m (d ∷ calls) c = behind (applied builtIn m d .meter) calls c
+
+range-behind : (calls : List Call) (c : Call) → AllInRange calls → InRange c → AllInRange (calls ++ (c ∷ []))
+range-behind [] c i k = (k, tt)
+range-behind (d ∷ calls) c i k = (i .0, range-behind calls c (i .1) k)
+
+first-range : (p : Parsed) (cs : List Call) → AllInRange (withCall p cs) → AllInRange (withCall p [])
+first-range (Ok c) cs i = (i .0, tt)
+first-range NoKind cs i = tt
+
 module _ (f : Fresh) (t : Settings f) where
-  -- the record after some calls, newest first
-  from-record : (cs : List Call) → AllInRange cs → Read (pageOf (recordAfter builtIn f cs)) (recordAfter builtIn f cs)
-  from-record cs i =
-      let m = recordAfter builtIn f cs in
-      let sound = run-sound builtIn built-in-lawful f t cs i in
-      let typed : Typed m = rw (simulates builtIn built-in-lawful f t cs i) (account-typed f t cs i) in
-      record { reads = roundtrip.read-page m typed sound; back = refl; sound = sound; sized = typed .logs }
+  -- the record after some calls
+  abbrev reached : List Call → Meter
+  reached calls = recordAfter builtIn (recordOf (freshState f)) calls
 
-  first-range : (p : Parsed) (cs : List Call) → AllInRange (withCall p cs) → AllInRange (withCall p [])
-  first-range (Ok c) cs i = (i .0, tt)
-  first-range NoKind cs i = tt
+  from-record : (calls : List Call) → AllInRange calls → Read (pageOf (reached calls)) (reached calls)
+  from-record calls i =
+      let sound = meter.built-in .reached-sound f calls t i in
+      let typed : Typed (reached calls) = rw (meter.built-in .simulates f calls t i) (account-typed f t (reverse calls) (turned calls [] i tt)) in
+      record { reads = roundtrip.read-page (reached calls) typed sound; back = refl; sound = sound; sized = typed .logs }
 
-  pages-from : (rs : List Record) (cs : List Call) → AllInRange (callsIn rs) → AllInRange cs
-      → callPages (pageOf (recordAfter builtIn f cs)) rs ≡ pageOf (recordAfter builtIn f (reverseAux (callsIn rs) cs))
+  -- the pages of records behind some calls
+  pages-from : (rs : List Record) (calls : List Call) → AllInRange (callsIn rs) → AllInRange calls
+      → callPages (pageOf (reached calls)) rs ≡ pageOf (meterAfter (reached calls) rs)
   unfolding callPages callsIn commanded recordAfter
-  pages-from [] cs i k = refl
-  pages-from (r ∷ rs) cs i k =
-      ap (λ (page : List ℕ). callPages page rs) (page-on (from-record cs k) r (first-range (parsedIn r) (callsIn rs) i))
+  pages-from [] calls i k = refl
+  pages-from (r ∷ rs) calls i k =
+      ap (λ (page : List ℕ). callPages page rs) (page-on (from-record calls k) r (first-range (parsedIn r) (callsIn rs) i))
       ∙ go (parsedIn r) i (pages-from rs)
     where
       go : (p : Parsed) → AllInRange (withCall p (callsIn rs))
-          → ((cs : List Call) → AllInRange (callsIn rs) → AllInRange cs
-          → callPages (pageOf (recordAfter builtIn f cs)) rs ≡ pageOf (recordAfter builtIn f (reverseAux (callsIn rs) cs)))
-          → callPages (pageOf (performed builtIn (recordAfter builtIn f cs) p .meter)) rs
-          ≡ pageOf (recordAfter builtIn f (reverseAux (withCall p (callsIn rs)) cs))
-      go (Ok c) i rest = rest (c ∷ cs) (i .1) (i .0, k)
-      go NoKind i rest = rest cs i k
+          → ((calls : List Call) → AllInRange (callsIn rs) → AllInRange calls → callPages (pageOf (reached calls)) rs ≡ pageOf (meterAfter (reached calls) rs))
+          → callPages (pageOf (performed builtIn (reached calls) p .meter)) rs ≡ pageOf (recordAfter builtIn (reached calls) (withCall p (callsIn rs)))
+      go (Ok c) i rest =
+          ap (λ (m : Meter). callPages (pageOf m) rs) (sym (behind (recordOf (freshState f)) calls c))
+          ∙ rest (calls ++ (c ∷ [])) (i .1) (range-behind calls c k (i .0))
+          ∙ ap (λ (m : Meter). pageOf (meterAfter m rs)) (behind (recordOf (freshState f)) calls c)
+      go NoKind i rest = rest calls i k
 
 fresh-sound : (f : Fresh) → SettingsInRange f → freshOf f .answer ≡ Accepted → soundMeter builtIn (freshOf f .meter) ≡ true
 unfolding recordAfter
 fresh-sound f range e =
     ap (soundMeter builtIn) (fresh-laws .accepted-meter f e)
-    ∙ run-sound builtIn built-in-lawful f (fresh-laws .accepted-settings f range e) [] tt
+    ∙ meter.built-in .reached-sound f [] (fresh-laws .accepted-settings f range e) tt
 
 account-page : (page : List ℕ) (f : Fresh) (rs : List Record) → length page ≡ size → freshOf f .answer ≡ Accepted → SettingsInRange f
     → AllInRange (callsIn rs) → callPages (freshPageOf page f) rs ≡ accountPage (account builtIn f (callsIn rs))

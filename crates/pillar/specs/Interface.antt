@@ -17,26 +17,26 @@ use Rattle.replay.specs.declared.Replayed.{Replayed}
 use Rattle.replay.specs.declared.Replayed.the-variants.{Written, Empty, Bad, Short, Refused}
 
 -- the number of a refusal, else that of what follows: 'Place, in order'
-abbrev pub unlessRefused : Answer → ℕ → ℕ
-unlessRefused answer.Accepted n = n
-unlessRefused (answer.Refused r) n = r
+abbrev pub numberOr : Answer → ℕ → ℕ
+numberOr answer.Accepted n = n
+numberOr (answer.Refused r) n = r
 
 -- a refusal leaves every byte
-abbrev pub unlessRefusedBytes : Answer → List ℕ → List ℕ → List ℕ
-unlessRefusedBytes answer.Accepted after before = after
-unlessRefusedBytes (answer.Refused r) after before = before
+abbrev pub bytesOr : Answer → List ℕ → List ℕ → List ℕ
+bytesOr answer.Accepted after before = after
+bytesOr (answer.Refused r) after before = before
 
 -- an accepted record goes to the writer: 'writer | 8 | buffer under 558 bytes'
-unfoldable pub keptAnswer : Outcome → List ℕ → ℕ
-keptAnswer o page = unlessRefused (o .answer) (answerNumber (writeAnswer (o .meter) page))
+unfoldable pub keptNumber : Outcome → List ℕ → ℕ
+keptNumber o page = numberOr (o .answer) (answerNumber (writeAnswer (o .meter) page))
 
 -- the bytes afterwards: what the writer leaves, or as they were on a refusal
 unfoldable pub keptPage : Outcome → List ℕ → List ℕ
-keptPage o page = unlessRefusedBytes (o .answer) (written (o .meter) page) page
+keptPage o page = bytesOr (o .answer) (written (o .meter) page) page
 
 -- 'Fresh takes mode, threshold, Over, Under, clock': 1, 4, 5, then the writer's
-abbrev pub freshAnswer : List ℕ → ℕ → ℤ → ℕ → ℕ → ℕ → ℕ
-freshAnswer page mode threshold over under clock = keptAnswer (freshOf (settingsOf mode threshold over under clock)) page
+abbrev pub freshNumber : List ℕ → ℕ → ℤ → ℕ → ℕ → ℕ → ℕ
+freshNumber page mode threshold over under clock = keptNumber (freshOf (settingsOf mode threshold over under clock)) page
 
 -- the bytes afterwards: the fresh meter's page over the page's length, or as they were on a refusal
 abbrev pub freshPage : List ℕ → ℕ → ℤ → ℕ → ℕ → ℕ → List ℕ
@@ -47,14 +47,14 @@ abbrev pub outcomeOn : Meter → ℕ → ℕ → ℕ → ℕ → ℕ → ℕ →
 outcomeOn m kind n1 n2 n3 n4 n5 = commanded builtIn m kind n1 n2 n3 n4 n5
 
 -- 'reader | 9 | ..', 10, 11; 'kind | 13 | not 1–15'; then the call's own
-unfoldable pub callAnswer : List ℕ → ℕ → ℕ → ℕ → ℕ → ℕ → ℕ → ℕ
-callAnswer page kind n1 n2 n3 n4 n5 =
-    unlessRefused (readOf page .answer) (keptAnswer (outcomeOn (readOf page .meter) kind n1 n2 n3 n4 n5) page)
+unfoldable pub callNumber : List ℕ → ℕ → ℕ → ℕ → ℕ → ℕ → ℕ → ℕ
+callNumber page kind n1 n2 n3 n4 n5 =
+    numberOr (readOf page .answer) (keptNumber (outcomeOn (readOf page .meter) kind n1 n2 n3 n4 n5) page)
 
 -- the bytes afterwards: the page of the record that the call handed back, or as they were on a refusal
 unfoldable pub callPage : List ℕ → ℕ → ℕ → ℕ → ℕ → ℕ → ℕ → List ℕ
 callPage page kind n1 n2 n3 n4 n5 =
-    unlessRefusedBytes (readOf page .answer) (keptPage (outcomeOn (readOf page .meter) kind n1 n2 n3 n4 n5) page) page
+    bytesOr (readOf page .answer) (keptPage (outcomeOn (readOf page .meter) kind n1 n2 n3 n4 n5) page) page
 
 -- what became of a list as a number: 0 where its page is written; 'Empty input', `bad` and `short` above every refusal
 abbrev pub replayNumber : Replayed → ℕ
@@ -65,5 +65,5 @@ replayNumber Short = 102
 replayNumber (Refused n) = n
 
 -- 'reader | 9 | length not 558', '10 | a pair differs', '11 | the record would not be sound, or Exceeded above 1'
-abbrev pub checkAnswer : List ℕ → ℕ
-checkAnswer page = answerNumber (readOf page .answer)
+abbrev pub checkNumber : List ℕ → ℕ
+checkNumber page = answerNumber (readOf page .answer)

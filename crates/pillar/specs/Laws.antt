@@ -16,19 +16,19 @@ use Rattle.page.specs.Layout.{size, pageOf, readOf}
 use Rattle.page.specs.AccountPage.{accountPage}
 use Rattle.replay.specs.declared.Record.{Record}
 use Rattle.replay.specs.Replay.{callsIn, nextOf}
-use Rattle.pillar.specs.Interface.{unlessRefused, freshAnswer, freshPage, callAnswer, callPage}
+use Rattle.pillar.specs.Interface.{numberOr, freshNumber, freshPage, callNumber, callPage}
 
 -- what `pillar_fresh` answers to the settings f
-abbrev pub freshAnswerOf : List ℕ → Fresh → ℕ
-freshAnswerOf page f = freshAnswer page (f .mode) (f .threshold) (f .over) (f .under) (f .clock)
+abbrev pub freshNumberOf : List ℕ → Fresh → ℕ
+freshNumberOf page f = freshNumber page (f .mode) (f .threshold) (f .over) (f .under) (f .clock)
 
 -- and the page that it leaves
 abbrev pub freshPageOf : List ℕ → Fresh → List ℕ
 freshPageOf page f = freshPage page (f .mode) (f .threshold) (f .over) (f .under) (f .clock)
 
 -- what `pillar_call` answers to the kind and the numbers of r
-abbrev pub callAnswerOf : List ℕ → Record → ℕ
-callAnswerOf page r = callAnswer page (r .kind) (r .n1) (r .n2) (r .n3) (r .n4) (r .n5)
+abbrev pub callNumberOf : List ℕ → Record → ℕ
+callNumberOf page r = callNumber page (r .kind) (r .n1) (r .n2) (r .n3) (r .n4) (r .n5)
 
 -- and the page that it leaves
 abbrev pub callPageOf : List ℕ → Record → List ℕ
@@ -43,16 +43,16 @@ callPages page (r ∷ rs) = callPages (callPageOf page r) rs
 pub record Laws : Type 0 where
   -- the writer refuses only a short buffer: fresh never answers 12 ..
   pub fresh-answer : (page : List ℕ) (f : Fresh) → SettingsInRange f
-      → freshAnswerOf page f ≡ unlessRefused (freshOf f .answer) (cond (leb size (length page)) 0 8)
+      → freshNumberOf page f ≡ numberOr (freshOf f .answer) (cond (leb size (length page)) 0 8)
   -- .. and a call on a page that is read answers as the machine does
   pub call-answer : (page : List ℕ) (r : Record) → Bytes page → readOf page .answer ≡ Accepted → AllInRange (callsIn (r ∷ []))
-      → callAnswerOf page r ≡ answerNumber (nextOf (readOf page .meter) r .answer)
+      → callNumberOf page r ≡ answerNumber (nextOf (readOf page .meter) r .answer)
   -- it leaves the page of the record that the machine hands back, accepted or refused
   pub call-page : (page : List ℕ) (r : Record) → Bytes page → readOf page .answer ≡ Accepted → AllInRange (callsIn (r ∷ []))
       → callPageOf page r ≡ pageOf (nextOf (readOf page .meter) r .meter)
   -- on any number but 0 every byte stays
-  pub fresh-refused : (page : List ℕ) (f : Fresh) → (freshAnswerOf page f ≡ 0 → ⊥) → freshPageOf page f ≡ page
-  pub call-refused : (page : List ℕ) (r : Record) → (callAnswerOf page r ≡ 0 → ⊥) → callPageOf page r ≡ page
+  pub fresh-refused : (page : List ℕ) (f : Fresh) → (freshNumberOf page f ≡ 0 → ⊥) → freshPageOf page f ≡ page
+  pub call-refused : (page : List ℕ) (r : Record) → (callNumberOf page r ≡ 0 → ⊥) → callPageOf page r ≡ page
   -- calls from an accepted fresh, refused ones among them, leave the page of their history's account
   pub account-page : (page : List ℕ) (f : Fresh) (rs : List Record) → length page ≡ size → freshOf f .answer ≡ Accepted → SettingsInRange f
       → AllInRange (callsIn rs) → callPages (freshPageOf page f) rs ≡ accountPage (account builtIn f (callsIn rs))

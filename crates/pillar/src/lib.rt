@@ -4,7 +4,7 @@
 // them.
 ghost use mathlib.Core.Path.{_≡_};
 ghost use Rattle.replay.specs.Replay.{replayAnswer, replayed};
-ghost use Rattle.pillar.specs.Interface.{keptAnswer, keptPage, freshAnswer, freshPage, callAnswer, callPage, replayNumber, checkAnswer};
+ghost use Rattle.pillar.specs.Interface.{keptNumber, keptPage, freshNumber, freshPage, callNumber, callPage, replayNumber, checkNumber};
 use calls::Answer;
 use meter::Meter;
 use meter::Outcome;
@@ -25,7 +25,7 @@ fn replayed_number(replayed: Replayed) -> u32
 
 // Writes the record of an accepted outcome into the page.
 fn keep(outcome: Outcome, page: &mut [u8]) -> u32
-    ensures { λ r. ⌜ (r ≡ keptAnswer outcome (now (page .entry))) × (now (page .exit) ≡ keptPage outcome (now (page .entry))) ⌝ }
+    ensures { λ r. ⌜ (r ≡ keptNumber outcome (now (page .entry))) × (now (page .exit) ≡ keptPage outcome (now (page .entry))) ⌝ }
 {
     let answer = outcome.answer;
     if let Answer::Refused(number) = answer {
@@ -45,7 +45,7 @@ pub extern "C" fn pillar_fresh(
     under: u32,
     clock: u32,
 ) -> u32
-    ensures { λ r. ⌜ (r ≡ freshAnswer (now (page .entry)) mode threshold over under clock) × (now (page .exit) ≡ freshPage (now (page .entry)) mode threshold over under clock) ⌝ }
+    ensures { λ r. ⌜ (r ≡ freshNumber (now (page .entry)) mode threshold over under clock) × (now (page .exit) ≡ freshPage (now (page .entry)) mode threshold over under clock) ⌝ }
 {
     keep(Meter::fresh(mode, threshold, over, under, clock), page)
 }
@@ -62,7 +62,7 @@ pub extern "C" fn pillar_call(
     n4: u32,
     n5: u32,
 ) -> u32
-    ensures { λ r. ⌜ (r ≡ callAnswer (now (page .entry)) kind n1 n2 n3 n4 n5) × (now (page .exit) ≡ callPage (now (page .entry)) kind n1 n2 n3 n4 n5) ⌝ }
+    ensures { λ r. ⌜ (r ≡ callNumber (now (page .entry)) kind n1 n2 n3 n4 n5) × (now (page .exit) ≡ callPage (now (page .entry)) kind n1 n2 n3 n4 n5) ⌝ }
 {
     let read = page::read_page(page);
     let answer = read.answer;
@@ -86,7 +86,7 @@ pub extern "C" fn pillar_replay(records: &[u8], page: &mut [u8]) -> u32
 // record would not be sound.
 #[no_mangle]
 pub extern "C" fn pillar_check(page: &[u8]) -> u32
-    ensures { λ r. ⌜ r ≡ checkAnswer (now (page .entry)) ⌝ }
+    ensures { λ r. ⌜ r ≡ checkNumber (now (page .entry)) ⌝ }
 {
     let read = page::read_page(page);
     let answer = read.answer;

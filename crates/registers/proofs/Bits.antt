@@ -8,7 +8,7 @@ use Rattle.base.specs.Bits.{bit, number, inverse}
 use Rattle.base.proofs.Bits.{number-bits, number-or, number-lt, bit-number, clear-by}
 use Rattle.registers.specs.declared.Register.{Register}
 use Rattle.registers.specs.Register.{raised, cleared}
-use Rattle.registers.specs.Laws.{Laws}
+use Rattle.registers.specs.Laws.{LawsOf, Laws}
 
 -- a number that is made of 32 bits has those bits, and no others
 module _ (n : ℕ) (p : ℕ → Bool) (made : n ≡ number 32 p) where
@@ -33,8 +33,8 @@ module _ (r : Register) (mask : ℕ) (b : r .bits < 2 ^ 32) (m : mask < 2 ^ 32) 
       ap₂ bitOr (sym (number-bits 32 (r .bits) b)) (and-not mask (r .filter) m f)
       ∙ number-or 32 (bit (r .bits)) (λ k. bit mask k && not (bit (r .filter) k))
 
-  pub laws : r .filter < 2 ^ 32 → Laws r mask
-  laws f =
+  laws-of : r .filter < 2 ^ 32 → LawsOf r mask
+  laws-of f =
       record {
         raised-bit = bit-of _ _ (raised-bits f);
         cleared-bit = bit-of _ _ cleared-bits;
@@ -42,3 +42,6 @@ module _ (r : Register) (mask : ℕ) (b : r .bits < 2 ^ 32) (m : mask < 2 ^ 32) 
         raised-lt = fits _ _ (raised-bits f);
         cleared-lt = fits _ _ cleared-bits;
       }
+
+pub laws : Laws
+laws r n b f m = laws-of r n b m f

@@ -7,7 +7,7 @@ use Rattle.registers.specs.declared.Register.{Register}
 use Rattle.registers.specs.Register.{raised, cleared, withFilter}
 
 -- of a register, and of the number that a call brings: an event's mask, a mask to clear, a filter
-pub record Laws (r : Register) (n : ℕ) : Type 0 where
+pub record LawsOf (r : Register) (n : ℕ) : Type 0 where
   -- a bit is set by an event that has it, unless the filter hides it at that moment
   pub raised-bit : (k : ℕ) → k < 32 → bit (raised r n .bits) k ≡ (bit (r .bits) k || (bit n k && not (bit (r .filter) k)))
   -- 'ones clear'
@@ -17,3 +17,7 @@ pub record Laws (r : Register) (n : ℕ) : Type 0 where
   -- the results are numbers of 32 bits
   pub raised-lt : raised r n .bits < 2 ^ 32
   pub cleared-lt : cleared r n .bits < 2 ^ 32
+
+-- of every register and every number of 32 bits
+abbrev pub Laws : Type 0
+Laws = (r : Register) (n : ℕ) → r .bits < 2 ^ 32 → r .filter < 2 ^ 32 → n < 2 ^ 32 → LawsOf r n

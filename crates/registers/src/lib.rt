@@ -13,7 +13,7 @@ impl Register {
     // the register is read.
     pub fn raise(mut self, mask: u32) -> Register
         ensures { λ r. ⌜ r ≡ raised self mask ⌝ }
-        ensures laws { λ _. ⌜ Laws self mask ⌝ }
+        ensures laws { λ _. ⌜ Laws ⌝ }
     {
         self.bits = self.bits | (mask & !self.filter);
         self

@@ -10,7 +10,7 @@ use native.Mathlib.Omega.{arith}
 use lib.Dec.{ltb}
 use lib.ListN.{length, length-append}
 use borrow.Author.Tests.{ltb-true, ltb-false, lt-ltb, le-ltb}
-use Rattle.replay.specs.Listing.{digit, digits, decimal, valueBehind, field}
+use Rattle.replay.specs.Listing.{digitByte, digits, decimal, valueBehind, field}
 
 small-or-large : {P : Type 0} (n : ℕ) → (n < 10 → P) → (10 ≤ n → P) → P
 small-or-large {P} n small large = go (ltb n 10) refl
@@ -29,11 +29,11 @@ enough (suc k) (suc j) n h g =
     (λ s. rw (lt-ltb n 10 s))
     (λ l. rw (le-ltb n 10 l, enough k j (n / 10) (omega arith) (omega arith)))
 
-pub one-digit : (n : ℕ) → n < 10 → decimal n ≡ digit n ∷ []
+pub one-digit : (n : ℕ) → n < 10 → decimal n ≡ digitByte n ∷ []
 unfolding decimal digits
 one-digit n h = rw (add-one, lt-ltb n 10 h)
 
-pub more-digits : (n : ℕ) → 10 ≤ n → decimal n ≡ decimal (n / 10) ++ (digit (n % 10) ∷ [])
+pub more-digits : (n : ℕ) → 10 ≤ n → decimal n ≡ decimal (n / 10) ++ (digitByte (n % 10) ∷ [])
 unfolding decimal digits
 more-digits n h = rw (add-one n, le-ltb n 10 h, enough n (n / 10 + 1) (n / 10) (omega arith) (omega arith))
 
@@ -63,7 +63,7 @@ digits-value (suc k) n h =
     (λ s. rw (lt-ltb n 10 s) (omega arith))
     (λ l.
     let higher = digits-value k (n / 10) (omega arith) in
-    rw (le-ltb n 10 l, value-append 0 (digits k (n / 10)) (digit (n % 10)), higher) (omega arith))
+    rw (le-ltb n 10 l, value-append 0 (digits k (n / 10)) (digitByte (n % 10)), higher) (omega arith))
 
 -- a number is the value of its digits
 pub decimal-value : (n : ℕ) → valueBehind 0 (decimal n) ≡ n

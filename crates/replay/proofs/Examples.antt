@@ -1,7 +1,8 @@
 -- The examples, computed.
 -- Assumes nothing.
 use mathlib.Core.Path.{refl}
-use Rattle.codec.specs.Format.{be, numAt}
+use Rattle.codec.specs.BigEndian.{be}
+use Rattle.codec.specs.Format.{numAt}
 use Rattle.calls.specs.Calls.{callOf}
 use Rattle.meter.specs.Settings.{freshAnswer}
 use Rattle.replay.specs.Replay.{callsIn, replayAnswer}

@@ -12,7 +12,7 @@ use Rattle.codec.specs.Lawful.{Bytes}
 use Rattle.calls.specs.declared.Answer.{Answer}
 use Rattle.calls.specs.declared.Answer.the-variants as answer
 use Rattle.meter.specs.State.{recordOf}
-use Rattle.meter.specs.Fresh.{holding}
+use Rattle.meter.specs.Holding.{holding}
 use Rattle.page.specs.Layout.{size}
 use Rattle.page.specs.AccountPage.{accountPage}
 use Rattle.page.specs.Demand3.{Trace}
@@ -21,7 +21,7 @@ use Rattle.page.proofs.Traces as traces
 use Rattle.replay.specs.declared.Replayed.{Replayed}
 use Rattle.replay.specs.declared.Replayed.the-variants.{Written, Empty, Bad, Short, Refused}
 use Rattle.replay.specs.Replay.{recordLength, firstIn, laterIn, settingsIn, callsIn, startOf, accountIn, unlessRefused, endOf, replayAnswer, replayed}
-use Rattle.replay.specs.Laws.{pageIn, Compared}
+use Rattle.replay.specs.Laws.{pageIn, ComparedInputs}
 use Rattle.replay.proofs.Records.{record-lawful}
 use Rattle.replay.proofs.Ranges.{settings-range}
 use Rattle.replay.proofs.Runs.{in-range, printed}
@@ -53,7 +53,7 @@ module _ (s out : List ℕ) (bytes : Bytes s) (e : replayAnswer s out ≡ Writte
   unfolding replayed
   page = rw e (take-at (accountPage (accountIn s)) (drop size out) size (ap length (printed s bytes accepted) ∙ page-length (recordOf (holding (accountIn s)))))
 
-pub compared : (s t out out′ : List ℕ) → Bytes s → Bytes t → replayAnswer s out ≡ Written → replayAnswer t out′ ≡ Written → Compared s t out out′
+pub compared : (s t out out′ : List ℕ) → Bytes s → Bytes t → replayAnswer s out ≡ Written → replayAnswer t out′ ≡ Written → ComparedInputs s t out out′
 unfolding trace accountIn
 compared s t out out′ bs bt es et =
     let first = page s out bs es in

@@ -3,7 +3,7 @@
 -- Assumes nothing.
 use mathlib.Core.Path.{_≡_, refl, sym, ap, _∙_}
 use mathlib.Core.Bool.{Bool, true, false, cond}
-use mathlib.Core.List.{List, [], _∷_, _++_, reverseAux}
+use mathlib.Core.List.{List, [], _∷_, _++_}
 use Prim.Native.Nat.{ℕ, zero, suc, _+_, _-_, _*_, _/_, _%_, _<_, _≤_}
 use native.Mathlib.Omega.{arith}
 use lib.Dec.{eqb, leb, ltb}
@@ -13,20 +13,18 @@ use Rattle.codec.specs.Lawful.{Bytes}
 use Rattle.codec.proofs.Formats.{times-lawful}
 use Rattle.events.specs.Table.{builtIn}
 use Rattle.logs.specs.Layout.{Sized}
-use Rattle.calls.specs.declared.Call.{Call}
 use Rattle.calls.specs.declared.Answer.{Answer}
 use Rattle.calls.specs.declared.Answer.the-variants as answer
 use Rattle.calls.specs.declared.Parsed.{Parsed}
 use Rattle.calls.specs.declared.Parsed.the-variants.{Ok, NoKind}
 use Rattle.calls.specs.Calls.{callOf, AllInRange}
-use Rattle.history.specs.Effects.{Fresh}
 use Rattle.meter.specs.declared.Meter.{Meter}
 use Rattle.meter.specs.declared.Outcome.{Outcome}
 use Rattle.meter.specs.State.{recordOf}
 use Rattle.meter.specs.Sound.{soundMeter}
-use Rattle.meter.specs.Machine.{performed, commanded}
-use Rattle.meter.specs.Fresh.{Settings, freshState, holding, recordAfter}
-use Rattle.meter.specs.Laws.{lastRecord}
+use Rattle.meter.specs.Machine.{performed, commanded, recordAfter}
+use Rattle.meter.specs.Fresh.{Settings, freshState}
+use Rattle.meter.specs.Holding.{holding}
 use Rattle.meter.proofs.Preserved.{applied-sized}
 use Rattle.meter.proofs.Accepting.{fresh-laws}
 use Rattle.meter.proofs.Laws.{built-in}
@@ -37,7 +35,7 @@ use Rattle.replay.specs.declared.Record.{Record}
 use Rattle.replay.specs.declared.Replayed.{Replayed}
 use Rattle.replay.specs.declared.Replayed.the-variants.{Written, Refused}
 use Rattle.replay.specs.Input.{recordFormat}
-use Rattle.replay.specs.Replay.{recordLength, firstIn, recordsFrom, laterIn, settingsIn, parsedIn, withCall, callsIn, startOf, nextOf, runFrom, lastMeter, accountIn, unlessRefused, endOf, replayAnswer, bufferAfter, replayed}
+use Rattle.replay.specs.Replay.{recordLength, firstIn, recordsFrom, laterIn, settingsIn, parsedIn, withCall, callsIn, startOf, nextOf, meterAfter, lastMeter, accountIn, unlessRefused, endOf, replayAnswer, bufferAfter, replayed}
 use Rattle.replay.proofs.Records.{record-lawful}
 use Rattle.replay.proofs.Ranges.{settings-range, calls-range}
 
@@ -55,6 +53,15 @@ module _ (s : List ℕ) (i : ℕ) where
       let none : length s / 21 - i ≡ 0 = omega arith in
       rw none
 
+-- the meter after a record is the one that its call, if it names one, gets it to
+pub meter-next : (m : Meter) (r : Record) (rs : List Record) → meterAfter m (r ∷ rs) ≡ meterAfter (nextOf m r .meter) rs
+unfolding recordAfter callsIn commanded
+meter-next m r rs = go (parsedIn r)
+  where
+    go : (p : Parsed) → recordAfter builtIn m (withCall p (callsIn rs)) ≡ recordAfter builtIn (performed builtIn m p .meter) (callsIn rs)
+    go (Ok c) = refl
+    go NoKind = refl
+
 -- the loop keeps its record in parts: the arrays keep their types' lengths
 performed-sized : (m : Meter) (p : Parsed) → Sized (m .logs) → Sized (performed builtIn m p .meter .logs)
 performed-sized m (Ok c) z = applied-sized builtIn m c z
@@ -67,32 +74,13 @@ commanded-sized m k n1 n2 n3 n4 n5 z = performed-sized m (callOf k n1 n2 n3 n4 n
 -- a turn of it: what the record at i makes of the meter, and that the records behind it are left
 pub next-turn : (s : List ℕ) (i : ℕ) (m : Meter) (r : Record) (o : Outcome) → i < length s / 21 → Sized (m .logs)
     → r ≡ recordFormat .dec s (i * 21) → o ≡ nextOf m r
-    → Sized (o .meter .logs) × (runFrom (o .meter) (recordsFrom (i + 1) s) ≡ runFrom m (recordsFrom i s))
-unfolding runFrom
-next-turn s i m r o h z read next = (rw next (commanded-sized m _ _ _ _ _ _ z), rw (next, read, records-next s i h))
+    → Sized (o .meter .logs) × (meterAfter (o .meter) (recordsFrom (i + 1) s) ≡ meterAfter m (recordsFrom i s))
+next-turn s i m r o h z read next =
+    (rw next (commanded-sized m _ _ _ _ _ _ z), rw (next, read, records-next s i h) (sym (meter-next m (recordFormat .dec s (i * 21)) (recordsFrom (i + 1) s))))
 
-pub last-turn : (s : List ℕ) (i : ℕ) (m : Meter) → length s / 21 ≤ i → runFrom m (recordsFrom i s) ≡ m
-unfolding runFrom
+pub last-turn : (s : List ℕ) (i : ℕ) (m : Meter) → length s / 21 ≤ i → meterAfter m (recordsFrom i s) ≡ m
+unfolding recordAfter callsIn
 last-turn s i m h = rw (records-end s i h)
-
--- ---- the machine's run is that of the calls which the records name
-
--- behind the calls cs, newest first
-run-calls : (f : Fresh) (rs : List Record) (cs : List Call)
-    → runFrom (recordAfter builtIn f cs) rs ≡ recordAfter builtIn f (reverseAux (callsIn rs) cs)
-unfolding runFrom callsIn commanded recordAfter
-run-calls f [] cs = refl
-run-calls f (r ∷ rs) cs = go (parsedIn r) (run-calls f rs)
-  where
-    go : (p : Parsed) → ((cs : List Call) → runFrom (recordAfter builtIn f cs) rs ≡ recordAfter builtIn f (reverseAux (callsIn rs) cs))
-        → runFrom (performed builtIn (recordAfter builtIn f cs) p .meter) rs
-        ≡ recordAfter builtIn f (reverseAux (withCall p (callsIn rs)) cs)
-    go (Ok c) rest = rest (c ∷ cs)
-    go NoKind rest = rest cs
-
-run-fresh : (f : Fresh) (rs : List Record) → runFrom (recordOf (freshState f)) rs ≡ lastRecord builtIn f (callsIn rs)
-unfolding recordAfter
-run-fresh f rs = run-calls f rs []
 
 -- any bytes are those of records
 all-valid : (n : ℕ) (s : List ℕ) (at : ℕ) → allValid recordFormat n s at ≡ true
@@ -109,14 +97,12 @@ module _ (s : List ℕ) (bytes : Bytes s) (started : startOf (firstIn s) .answer
       let n = length s / recordLength - 1 in
       calls-range (laterIn s) (times-lawful record-lawful n .held-read s recordLength bytes (all-valid n s recordLength) .1)
 
-  by-calls : lastMeter s ≡ lastRecord builtIn (settingsIn (firstIn s)) (callsIn (laterIn s))
-  by-calls =
-      ap (λ (m : Meter). runFrom m (laterIn s)) (fresh-laws .accepted-meter (settingsIn (firstIn s)) started)
-      ∙ run-fresh (settingsIn (firstIn s)) (laterIn s)
+  from-fresh : lastMeter s ≡ meterAfter (recordOf (freshState (settingsIn (firstIn s)))) (laterIn s)
+  from-fresh = ap (λ (m : Meter). meterAfter m (laterIn s)) (fresh-laws .accepted-meter (settingsIn (firstIn s)) started)
 
   pub holds-account : lastMeter s ≡ recordOf (holding (accountIn s))
   unfolding accountIn
-  holds-account = by-calls ∙ built-in .simulates (settingsIn (firstIn s)) (callsIn (laterIn s)) settings in-range
+  holds-account = from-fresh ∙ built-in .simulates (settingsIn (firstIn s)) (callsIn (laterIn s)) settings in-range
 
   -- its page is the one that document 01 prints of the account
   pub printed : accountPage (accountIn s) ≡ pageOf (recordOf (holding (accountIn s)))
@@ -125,7 +111,7 @@ module _ (s : List ℕ) (bytes : Bytes s) (started : startOf (firstIn s) .answer
 
   last-sound : soundMeter builtIn (lastMeter s) ≡ true
   last-sound =
-      ap (soundMeter builtIn) by-calls ∙ built-in .reached-sound (settingsIn (firstIn s)) (callsIn (laterIn s)) settings in-range
+      ap (soundMeter builtIn) from-fresh ∙ built-in .reached-sound (settingsIn (firstIn s)) (callsIn (laterIn s)) settings in-range
 
   -- ---- so the writer answers and writes what becomes of the input
 
@@ -166,11 +152,11 @@ begun s out o some whole fresh e = record { start = e; answer = rw (some, whole,
 
 -- fresh is accepted, and the writer was given the meter m after whole records
 module _ {s out : List ℕ} {o : Outcome} (b : Begun s out o) (bytes : Bytes s) (accepted : o .answer ≡ answer.Accepted) (whole : eqb (length s % recordLength) 0 ≡ true) where
-  pub ended : (m : Meter) (a : Answer) (page : List ℕ) → m ≡ runFrom (o .meter) (laterIn s) → (a ≡ writeAnswer m out) × (page ≡ written m out)
+  pub ended : (m : Meter) (a : Answer) (page : List ℕ) → m ≡ meterAfter (o .meter) (laterIn s) → (a ≡ writeAnswer m out) × (page ≡ written m out)
       → (unlessRefused a Written ≡ replayAnswer s out) × (page ≡ replayed s out)
   ended m a page run wrote =
       let started : startOf (firstIn s) .answer ≡ answer.Accepted = sym (ap (λ (o : Outcome). o .answer) (b .start)) ∙ accepted in
-      let last : m ≡ lastMeter s = run ∙ ap (λ (o : Outcome). runFrom (o .meter) (laterIn s)) (b .start) in
+      let last : m ≡ lastMeter s = run ∙ ap (λ (o : Outcome). meterAfter (o .meter) (laterIn s)) (b .start) in
       let end = with-bytes s out (endOf s out) (b .answer ∙ rw accepted) in (
         rw (wrote .0, last) (writer-answer s bytes started out whole) ∙ end .0,
         wrote .1 ∙ rw last (writer-page s bytes started out whole) ∙ end .1,

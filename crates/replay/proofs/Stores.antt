@@ -7,7 +7,7 @@ use native.Mathlib.Omega.{arith}
 use lib.ListN.{length, set, take, drop, replicate, length-append, length-set, length-replicate}
 use lib.Seq.{sets, set-comm, length-sets, sets-eq}
 use Rattle.codec.proofs.Stores.{sets-then}
-use Rattle.replay.specs.Listing.{digit, decimal, field, storedBefore}
+use Rattle.replay.specs.Listing.{digitByte, decimal, field, storedBefore}
 use Rattle.replay.proofs.Digits.{one-digit, more-digits, field-length}
 
 set-sets : (l : List ℕ) (i x j : ℕ) (ys : List ℕ) → i < j → set (sets l j ys) i x ≡ sets (set l i x) j ys
@@ -54,16 +54,16 @@ pub first-digit : (l : List ℕ) (end n : ℕ) → length (decimal n) ≤ end �
 first-digit l end n r i = record { room = r; inside = i; size = refl; place = refl; bytes = refl }
 
 module _ {l₀ : List ℕ} {end n : ℕ} {l : List ℕ} {at rest : ℕ} (s : Storing l₀ end n l at rest) where
-  pub next-digit : 10 ≤ rest → Storing l₀ end n (set l (at - 1) (digit (rest % 10))) (at - 1) (rest / 10)
+  pub next-digit : 10 ≤ rest → Storing l₀ end n (set l (at - 1) (digitByte (rest % 10))) (at - 1) (rest / 10)
   next-digit h =
       let xs = decimal (rest / 10) in
-      let ys = digit (rest % 10) ∷ [] in
+      let ys = digitByte (rest % 10) ∷ [] in
       let e = more-digits rest h in
       let count : length (decimal rest) ≡ length xs + 1 = ap length e ∙ length-append xs ys in
       record {
         room = omega (arith, s .room);
         inside = rw length-set (omega (arith, s .inside));
-        size = length-set l (at - 1) (digit (rest % 10)) ∙ s .size;
+        size = length-set l (at - 1) (digitByte (rest % 10)) ∙ s .size;
         place = omega (arith, s .place);
         bytes =
             stored-front l at xs ys (omega (arith, s .room))
@@ -71,7 +71,7 @@ module _ {l₀ : List ℕ} {end n : ℕ} {l : List ℕ} {at rest : ℕ} (s : Sto
             ∙ s .bytes;
       }
 
-  pub last-digit : rest < 10 → (at - 1 ≡ end - length (decimal n)) × (set l (at - 1) (digit rest) ≡ storedBefore l₀ end (decimal n))
+  pub last-digit : rest < 10 → (at - 1 ≡ end - length (decimal n)) × (set l (at - 1) (digitByte rest) ≡ storedBefore l₀ end (decimal n))
   last-digit h =
       let e = one-digit rest h in
       (rw e at (s .place), rw e at (s .bytes))

@@ -3,28 +3,28 @@ use mathlib.Core.Path.{_≡_}
 use mathlib.Core.List.{List, [], _∷_, _++_}
 use Prim.Native.Nat.{ℕ}
 use lib.ListN.{replicate}
-use Rattle.codec.specs.Format.{be}
-use Rattle.history.specs.Examples.{bench, benchCalls}
+use Rattle.codec.specs.BigEndian.{be}
+use Rattle.history.specs.Examples.{exampleSettings, exampleCalls}
 use Rattle.replay.specs.declared.Record.{Record}
 use Rattle.replay.specs.declared.Replayed.the-variants.{Written, Empty, Bad, Short, Refused}
 use Rattle.replay.specs.Replay.{settingsIn, callsIn, replayAnswer}
 use Rattle.replay.specs.Listing.{decimal, lineBytes}
 
 -- a record of a kind and its first number; 'unused ones ignored'
-abbrev pub plain : ℕ → ℕ → Record
-plain k n = record { kind = k; n1 = n; n2 = 0; n3 = 0; n4 = 0; n5 = 0 }
+abbrev pub recordOfKind : ℕ → ℕ → Record
+recordOfKind k n = record { kind = k; n1 = n; n2 = 0; n3 = 0; n4 = 0; n5 = 0 }
 
 -- 'Fresh (5, 3000, 2, 3, 1000)'
-abbrev pub fresh : Record
-fresh = record { kind = 0; n1 = 5; n2 = 3000; n3 = 2; n4 = 3; n5 = 1000 }
+abbrev pub firstRecord : Record
+firstRecord = record { kind = 0; n1 = 5; n2 = 3000; n3 = 2; n4 = 3; n5 = 1000 }
 
 -- 'samples 3000, 3001, 3001; call 5; samples 0, −5, 0; call 2; call 5; script 3; script 2; mode 7; mode 0; call 2'
-abbrev pub later : List Record
-later =
-    plain 1 3000 ∷ plain 1 3001 ∷ plain 1 3001
-    ∷ plain 5 0
-    ∷ plain 1 0 ∷ plain 1 4294967291 ∷ plain 1 0
-    ∷ plain 2 0 ∷ plain 5 0 ∷ plain 15 3 ∷ plain 15 2 ∷ plain 6 7 ∷ plain 6 0 ∷ plain 2 0
+abbrev pub laterRecords : List Record
+laterRecords =
+    recordOfKind 1 3000 ∷ recordOfKind 1 3001 ∷ recordOfKind 1 3001
+    ∷ recordOfKind 5 0
+    ∷ recordOfKind 1 0 ∷ recordOfKind 1 4294967291 ∷ recordOfKind 1 0
+    ∷ recordOfKind 2 0 ∷ recordOfKind 5 0 ∷ recordOfKind 15 3 ∷ recordOfKind 15 2 ∷ recordOfKind 6 7 ∷ recordOfKind 6 0 ∷ recordOfKind 2 0
     ∷ []
 
 -- the bytes of a fresh of that mode, and no call
@@ -33,10 +33,10 @@ only m = 0 ∷ be 4 m ++ (be 4 3000 ++ (be 4 2 ++ (be 4 3 ++ be 4 1000)))
 
 -- the records of the worked example, the digits, and the answers
 pub record Examples : Type 0 where
-  pub settings : settingsIn fresh ≡ bench
-  pub calls : callsIn later ≡ benchCalls
+  pub settings : settingsIn firstRecord ≡ exampleSettings
+  pub calls : callsIn laterRecords ≡ exampleCalls
   -- 'kind | 13 | not 1–15': such a record names no call
-  pub no-kind : callsIn (plain 0 1 ∷ plain 16 1 ∷ plain 255 1 ∷ []) ≡ []
+  pub no-kind : callsIn (recordOfKind 0 1 ∷ recordOfKind 16 1 ∷ recordOfKind 255 1 ∷ []) ≡ []
   -- 0, and the largest number of 32 bits
   pub zero : decimal 0 ≡ 48 ∷ []
   pub largest : decimal 4294967295 ≡ 52 ∷ 50 ∷ 57 ∷ 52 ∷ 57 ∷ 54 ∷ 55 ∷ 50 ∷ 57 ∷ 53 ∷ []

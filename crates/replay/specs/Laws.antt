@@ -7,20 +7,20 @@ use Rattle.codec.specs.Format.{encs, AllHold}
 use Rattle.codec.specs.Lawful.{Bytes, Lawful}
 use Rattle.calls.specs.declared.Answer.the-variants.{Accepted}
 use Rattle.meter.specs.State.{recordOf}
-use Rattle.meter.specs.Fresh.{holding}
+use Rattle.meter.specs.Holding.{holding}
 use Rattle.page.specs.AccountPage.{pageLength, accountPage}
 use Rattle.replay.specs.declared.Record.{Record}
 use Rattle.replay.specs.declared.Replayed.the-variants.{Written}
 use Rattle.replay.specs.Input.{recordFormat}
 use Rattle.replay.specs.Replay.{firstIn, laterIn, startOf, lastMeter, accountIn, replayAnswer, replayed}
-use Rattle.replay.specs.Listing.{digit, decimal, valueBehind, lineBytes, atEnd}
+use Rattle.replay.specs.Listing.{digitByte, decimal, valueBehind, lineBytes, atEnd}
 
 -- the page that `replay` leaves in the buffer
 abbrev pub pageIn : List ℕ → List ℕ → List ℕ
 pageIn s out = take pageLength (replayed s out)
 
 -- demand 3 of two inputs that `replay` took, each with its buffer
-pub record Compared (s t out out′ : List ℕ) : Type 0 where
+pub record ComparedInputs (s t out out′ : List ℕ) : Type 0 where
   pub first-page : pageIn s out ≡ accountPage (accountIn s)
   pub second-page : pageIn t out′ ≡ accountPage (accountIn t)
   pub same-account : pageIn s out ≡ pageIn t out′ → accountIn s ≡ accountIn t
@@ -37,10 +37,10 @@ pub record Laws : Type 0 where
   -- the meter that the machine reaches record by record, from an accepted fresh, holds the account of the history
   pub account-held : (s : List ℕ) → Bytes s → startOf (firstIn s) .answer ≡ Accepted → lastMeter s ≡ recordOf (holding (accountIn s))
   -- 'the page after the one equals the page after the other exactly when the accounts of the two histories are equal', from bytes to page
-  pub compared : (s t out out′ : List ℕ) → Bytes s → Bytes t → replayAnswer s out ≡ Written → replayAnswer t out′ ≡ Written → Compared s t out out′
+  pub compared : (s t out out′ : List ℕ) → Bytes s → Bytes t → replayAnswer s out ≡ Written → replayAnswer t out′ ≡ Written → ComparedInputs s t out out′
   -- the digits of a number: itself below ten; else those of its quotient by ten, and the remainder's behind them
-  pub one-digit : (n : ℕ) → n < 10 → decimal n ≡ digit n ∷ []
-  pub more-digits : (n : ℕ) → 10 ≤ n → decimal n ≡ decimal (n / 10) ++ (digit (n % 10) ∷ [])
+  pub one-digit : (n : ℕ) → n < 10 → decimal n ≡ digitByte n ∷ []
+  pub more-digits : (n : ℕ) → 10 ≤ n → decimal n ≡ decimal (n / 10) ++ (digitByte (n % 10) ∷ [])
   -- a number is the value of its digits
   pub decimal-value : (n : ℕ) → valueBehind 0 (decimal n) ≡ n
   -- the bytes of a line, from its start on, are all of it; and 40 places hold any line

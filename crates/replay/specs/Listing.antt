@@ -7,18 +7,18 @@ use lib.ListN.{length, replicate}
 use lib.Seq.{sets}
 use Rattle.calls.specs.Calls.{answerNumber}
 use Rattle.meter.specs.declared.Outcome.{Outcome}
-use Rattle.replay.specs.declared.Line.{Line}
+use Rattle.replay.specs.declared.ListingLine.{ListingLine}
 
 -- the byte of a decimal digit: '0' is 48
-abbrev pub digit : ℕ → ℕ
-digit d = 48 + d
+abbrev pub digitByte : ℕ → ℕ
+digitByte d = 48 + d
 
 -- the decimal digits of n as bytes, the highest first; of more than k digits, the k lowest
 unfoldable pub digits : ℕ → ℕ → List ℕ
 digits zero n = []
 digits (suc k) n =
     let higher = digits k (n / 10) in
-    cond (ltb n 10) (digit n ∷ []) (higher ++ (digit (n % 10) ∷ []))
+    cond (ltb n 10) (digitByte n ∷ []) (higher ++ (digitByte (n % 10) ∷ []))
 
 -- all of them: n has no more than n + 1 digits
 unfoldable pub decimal : ℕ → List ℕ
@@ -39,11 +39,11 @@ lineBytes position refusal switch openings =
     field position 32 ++ (field refusal 32 ++ (field switch 32 ++ field openings 10))
 
 -- bytes at the end of 40 places, zeros before them
-abbrev pub atEnd : List ℕ → Line
+abbrev pub atEnd : List ℕ → ListingLine
 atEnd xs = record { bytes = replicate (40 - length xs) 0 ++ xs; start = 40 - length xs }
 
 -- 'Per record a line': of the record at a position, by what it made of the meter
-abbrev pub lineOf : ℕ → Outcome → Line
+abbrev pub lineOf : ℕ → Outcome → ListingLine
 lineOf k o =
     atEnd (lineBytes k (answerNumber (o .answer)) (o .meter .control .state) (o .meter .control .openings))
 

@@ -16,7 +16,7 @@ use Rattle.history.specs.Effects.{Fresh}
 use Rattle.history.specs.Account.{Account, account}
 use Rattle.meter.specs.declared.Meter.{Meter}
 use Rattle.meter.specs.declared.Outcome.{Outcome}
-use Rattle.meter.specs.Machine.{commanded}
+use Rattle.meter.specs.Machine.{commanded, recordAfter}
 use Rattle.meter.specs.Settings.{settingsOf, freshAnswer}
 use Rattle.meter.specs.Fresh.{freshOf}
 use Rattle.page.specs.AccountPage.{pageLength, accountPage}
@@ -71,14 +71,13 @@ startOf r = freshOf (settingsIn r)
 abbrev pub nextOf : Meter → Record → Outcome
 nextOf m r = commanded builtIn m (r .kind) (r .n1) (r .n2) (r .n3) (r .n4) (r .n5)
 
--- the meter after some records, by the machine
-unfoldable pub runFrom : Meter → List Record → Meter
-runFrom m [] = m
-runFrom m (r ∷ rs) = runFrom (nextOf m r .meter) rs
+-- the meter after some records: the machine's, after the calls that they name
+abbrev pub meterAfter : Meter → List Record → Meter
+meterAfter m rs = recordAfter builtIn m (callsIn rs)
 
 -- the meter after the last record, by the machine
 abbrev pub lastMeter : List ℕ → Meter
-lastMeter s = runFrom (startOf (firstIn s) .meter) (laterIn s)
+lastMeter s = meterAfter (startOf (firstIn s) .meter) (laterIn s)
 
 -- ---- the whole input
 

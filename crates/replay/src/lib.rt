@@ -4,7 +4,6 @@ ghost use mathlib.Core.Path.{_≡_};
 ghost use Rattle.replay.specs.Replay.{replayAnswer, replayed};
 ghost use Rattle.replay.specs.Laws.{Laws};
 ghost use Rattle.replay.specs.Examples.{Examples};
-ghost use Rattle.history.specs.Effects.{Fresh};
 ghost use Rattle.history.specs.Laws.{Laws as AccountLaws};
 ghost use Rattle.history.specs.Examples.{WorkedExample};
 
@@ -35,7 +34,7 @@ pub const RECORD_LEN: usize = 21;
 // A line of the listing: the bytes from `start` to the end. Digits come out of a number from the last
 // to the first, so that a line is made from its end. Four numbers of at most 20, 3, 3 and 10 digits,
 // each with a byte behind it, are 40 bytes.
-pub struct Line {
+pub struct ListingLine {
     pub bytes: [u8; 40],
     pub start: usize,
 }
@@ -58,7 +57,7 @@ pub enum Replayed {
 pub fn replay(records: &[u8], page: &mut [u8]) -> Replayed
     ensures { λ r. ⌜ (r ≡ replayAnswer (now (records .entry)) (now (page .entry))) × (now (page .exit) ≡ replayed (now (records .entry)) (now (page .entry))) ⌝ }
     ensures laws { λ _. ⌜ Laws ⌝ }
-    ensures account { λ _. ⌜ ((f : Fresh) → AccountLaws f) ⌝ }
+    ensures account { λ _. ⌜ AccountLaws ⌝ }
     ensures examples { λ _. ⌜ WorkedExample × Examples ⌝ }
 {
     if records.len() == 0 {

@@ -3,7 +3,7 @@ ghost use mathlib.Core.Path.{_≡_};
 ghost use Prim.Native.Nat.{_-_, _≤_};
 ghost use lib.ListN.{length};
 ghost use Rattle.replay.specs.Listing.{field, lineBytes, atEnd, storedBefore, lineOf};
-use crate::Line;
+use crate::ListingLine;
 use meter::Outcome;
 
 // Stores a number's decimal digits, and a byte behind them, just before `end`, and answers the place
@@ -26,7 +26,7 @@ fn put_field(out: &mut [u8], end: usize, n: u64, last: u8) -> usize
 }
 
 // The line of four numbers, made from the last to the first.
-fn line_with(position: u64, refusal: u8, state: u8, openings: u32) -> Line
+fn line_with(position: u64, refusal: u8, state: u8, openings: u32) -> ListingLine
     ensures { λ r. ⌜ r ≡ atEnd (lineBytes position refusal state openings) ⌝ }
 {
     let mut bytes = [0u8; 40];
@@ -34,11 +34,11 @@ fn line_with(position: u64, refusal: u8, state: u8, openings: u32) -> Line
     let state_at = put_field(&mut bytes, openings_at, state as u64, b' ');
     let refusal_at = put_field(&mut bytes, state_at, refusal as u64, b' ');
     let start = put_field(&mut bytes, refusal_at, position, b' ');
-    Line { bytes, start }
+    ListingLine { bytes, start }
 }
 
 // The line of a record of the input, by what it made of the meter.
-pub fn line_of(position: u64, outcome: Outcome) -> Line
+pub fn line_of(position: u64, outcome: Outcome) -> ListingLine
     ensures { λ r. ⌜ r ≡ lineOf position outcome ⌝ }
 {
     let control = outcome.meter.control;

@@ -1,7 +1,7 @@
 // The records of an input on a meter: the first makes it, each later one gets the meter that the one
 // before handed back.
 ghost use mathlib.Core.Path.{_≡_};
-ghost use Rattle.replay.specs.Replay.{recordsFrom, startOf, nextOf, runFrom};
+ghost use Rattle.replay.specs.Replay.{recordsFrom, startOf, nextOf, meterAfter};
 use crate::RECORD_LEN;
 use crate::Record;
 use crate::input;
@@ -38,7 +38,7 @@ pub fn next(meter: Meter, later: Record) -> Outcome
 // The meter after the whole records from number `first` on, counted from 0. The record is kept in
 // parts while they run: a call that takes it by value copies it.
 pub fn run_from(before: Meter, records: &[u8], first: usize) -> Meter
-    ensures { λ r. ⌜ r ≡ runFrom before (recordsFrom first (now (records .entry))) ⌝ }
+    ensures { λ r. ⌜ r ≡ meterAfter before (recordsFrom first (now (records .entry))) ⌝ }
 {
     let mut scalars = before.scalars();
     let mut counts = before.logs.counts;

@@ -8,7 +8,7 @@ use lib.ListN.{length}
 use borrow.Author.Needs.{needs}
 use Rattle.meter.specs.declared.Outcome.{Outcome}
 use Rattle.page.specs.Layout.{readOf}
-use Rattle.measure.specs.Rounds.{passing, isAccepted, pageInRound, pageAfter}
+use Rattle.measure.specs.Rounds.{passing, isAccepted, pageInRound, pageAfterRounds}
 use Rattle.measure.proofs.Rounds.{passing-room, next-passing, next-page, after-round}
 use Rattle.measure.proofs.measure_read.Statement.{statement}
 use Rattle.measure.proofs.measure_read.Tie as tie
@@ -17,14 +17,14 @@ abbrev Inv-loop : tie.InvT-loop
 Inv-loop page₀ rounds accepted₀ round₀ page accepted round =
     (round ≤ rounds)
     × (accepted ≡ passing round (λ i. isAccepted (readOf (pageInRound page₀ i) .answer)))
-    × (page ≡ pageAfter page₀ round)
+    × (page ≡ pageAfterRounds page₀ round)
     × (length page ≡ length page₀)
 
 abbrev μ-loop : tie.MeasureT-loop
 μ-loop page₀ rounds accepted₀ round₀ page accepted round = rounds - round
 
 loop-holds : tie.Need-loop-holds Inv-loop μ-loop
-unfolding passing pageAfter
+unfolding passing pageAfterRounds
 loop-holds c = (omega arith, refl, refl, refl)
 
 count-round-requires : tie.Need-count-round-requires Inv-loop μ-loop

@@ -24,7 +24,7 @@ use Rattle.replay.proofs.replay.Statement.{statement}
 use Rattle.replay.proofs.replay.Tie as tie
 
 -- what is promised beside the equations, of every input alike
-claims : Laws × (((f : Fresh) → AccountLaws f) × (WorkedExample × Examples))
+claims : Laws × (AccountLaws × (WorkedExample × Examples))
 claims = (laws, (account.laws, (worked-example, examples)))
 
 -- the input and the buffer, as they came

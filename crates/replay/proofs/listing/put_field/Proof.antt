@@ -3,7 +3,7 @@ use Prim.Native.Nat.{_-_}
 use native.Mathlib.Omega.{arith}
 use lib.ListN.{length-set}
 use borrow.Author.Needs.{needs}
-use Rattle.replay.specs.Listing.{digit}
+use Rattle.replay.specs.Listing.{digitByte}
 use Rattle.replay.proofs.Digits.{some-digits, field-length}
 use Rattle.replay.proofs.Stores.{field-stored, Storing, first-digit, next-digit, last-digit}
 use Rattle.replay.proofs.listing.put_field.Statement.{statement}
@@ -60,7 +60,7 @@ same-length : tie.Need-same-length Inv-loop μ-loop
 same-length c =
     let a = c .before .before .args in
     let l = c .before .loop in
-    length-set (l .out) (l .at - 1) (digit (l .rest)) ∙ l .inv .size ∙ length-set (a .out .now) (a .end - 1) (a .last)
+    length-set (l .out) (l .at - 1) (digitByte (l .rest)) ∙ l .inv .size ∙ length-set (a .out .now) (a .end - 1) (a .last)
 
 returns : tie.Need-returns Inv-loop μ-loop
 returns c =

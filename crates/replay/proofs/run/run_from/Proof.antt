@@ -6,7 +6,7 @@ use Rattle.logs.specs.Layout.{arrays, Sized}
 use Rattle.meter.specs.State.{withLogs}
 use Rattle.meter.specs.Parts.{outcomeOf}
 use Rattle.meter.proofs.Laws.{built-in}
-use Rattle.replay.specs.Replay.{recordsFrom, runFrom}
+use Rattle.replay.specs.Replay.{recordsFrom, meterAfter}
 use Rattle.replay.proofs.Runs.{next-turn, last-turn}
 use Rattle.replay.proofs.run.run_from.Statement.{statement}
 use Rattle.replay.proofs.run.run_from.Tie as tie
@@ -14,8 +14,8 @@ use Rattle.replay.proofs.run.run_from.Tie as tie
 abbrev Inv-loop : tie.InvT-loop
 Inv-loop records first scalars₀ counts₀ clocks₀ codes₀ count i₀ scalars counts clocks codes i =
     Sized (arrays counts clocks codes)
-    × (runFrom (withLogs scalars counts clocks codes) (recordsFrom i records)
-    ≡ runFrom (withLogs scalars₀ counts₀ clocks₀ codes₀) (recordsFrom first records))
+    × (meterAfter (withLogs scalars counts clocks codes) (recordsFrom i records)
+    ≡ meterAfter (withLogs scalars₀ counts₀ clocks₀ codes₀) (recordsFrom first records))
 
 abbrev μ-loop : tie.MeasureT-loop
 μ-loop records first scalars₀ counts₀ clocks₀ codes₀ count i₀ scalars counts clocks codes i = count - i

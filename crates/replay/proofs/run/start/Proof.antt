@@ -11,7 +11,7 @@ fresh-requires : tie.Need-fresh-requires
 fresh-requires c κs = search needs
 
 returns : tie.Need-returns
-returns c = rw (c .fresh .ensures, toZ-ofZ {w = w32} {z = c .before .signed .result} (search needs), c .before .signed .ensures)
+returns c = rw (c .fresh .ensures .0, toZ-ofZ {w = w32} {z = c .before .signed .result} (search needs), c .before .signed .ensures)
 
 pub start-spec : {M : Type 1} → statement M
 start-spec = tie.close (tie.spec signed-requires fresh-requires returns)

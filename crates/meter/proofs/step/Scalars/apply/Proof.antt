@@ -78,7 +78,7 @@ returns-2 c =
     (arrays (lines .append-lines .last .0) (lines .append-lines .last .1 .0) (lines .append-lines .last .1 .1 .0))
     (s .step .ensures)
     (clear .clear-log .ensures)
-    (lines .append-lines .ensures)
+    (lines .append-lines .ensures .0)
 
 pub apply-spec : {M : Type 1} → statement M
 apply-spec =

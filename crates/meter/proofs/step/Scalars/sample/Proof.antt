@@ -1,13 +1,13 @@
 use mathlib.Core.Path.{_≡_, _∙_}
 use borrow.Author.Needs.{needs}
 use borrow.Author.Tests.{not-true, not-false}
-use Rattle.limiter.specs.Limiter.{sampled}
+use Rattle.limiter.specs.Limiter.{sampledPower}
 use Rattle.meter.specs.Machine.{sampleResult}
 use Rattle.meter.proofs.Steps.{after-none, after-over, after-under}
 use Rattle.meter.proofs.step.Scalars.sample.Statement.{statement}
 use Rattle.meter.proofs.step.Scalars.sample.Tie as tie
 
-watched-is : (c : tie.After-sample) → c .sample .result ≡ sampled (c .before .args .self .limiter) (c .before .args .power)
+watched-is : (c : tie.After-sample) → c .sample .result ≡ sampledPower (c .before .args .self .limiter) (c .before .args .power)
 watched-is c = c .sample .ensures ∙ search needs
 
 sample-requires : tie.Need-sample-requires

@@ -1,0 +1,19 @@
+-- The examples, each by computing it.
+use mathlib.Core.Path.{refl}
+use Rattle.base.specs.Tests.{among, every, below}
+use Rattle.events.specs.Line.{newest}
+use Rattle.events.specs.Table.{builtIn, lookup}
+use Rattle.events.specs.Codes.{besides, mayHold}
+use Rattle.control.specs.Table.{switchTable}
+use Rattle.control.specs.Control.{decision, modeDecision, soundControl}
+use Rattle.limiter.specs.Limiter.{watched, soundLimiter}
+use Rattle.logs.specs.Lists.{changed}
+use Rattle.logs.specs.Arrays.{ownCodes, zeroPast, soundLog, soundArrays}
+use Rattle.logs.specs.Layout.{padded, flat, laid, listsOf, soundLogs}
+use Rattle.meter.specs.Sound.{soundScalars, soundMeter}
+use Rattle.meter.specs.Machine.{requestResult, sampleResult, modeResult, limiterResult, eventResult, scriptResult, applied, recordAfter}
+use Rattle.meter.specs.Examples.{printedFrom, Examples}
+
+pub examples : Examples
+unfolding printedFrom recordAfter applied soundMeter soundScalars soundControl soundLimiter soundLogs soundArrays soundLog ownCodes zeroPast padded flat laid listsOf changed newest among every below builtIn lookup besides mayHold switchTable decision modeDecision watched requestResult sampleResult modeResult limiterResult eventResult scriptResult
+examples = record { lines = refl; log = refl; power = refl; taken = refl; refused = refl; full = refl; dropped = refl }
