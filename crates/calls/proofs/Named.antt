@@ -10,6 +10,7 @@ use Rattle.calls.specs.declared.Call.the-variants.{Sample, RemoteDisconn
 use Rattle.calls.specs.declared.Parsed.{Parsed}
 use Rattle.calls.specs.declared.Parsed.the-variants.{Ok}
 use Rattle.calls.specs.Calls.{kindOf, signedOf, callOf}
+use Rattle.calls.specs.Laws.{Laws}
 
 -- one kind of the list: the call is this one, or one of the rest
 module _ (k : ℕ) (c : Call) where
@@ -22,9 +23,9 @@ module _ (k : ℕ) (c : Call) where
   or-one-of : (j : ℕ) (x : Call) (rest : Parsed) → kindOf x ≡ j → (rest ≡ Ok c → kindOf c ≡ k) → cond (eqb k j) (Ok x) rest ≡ Ok c → kindOf c ≡ k
   or-one-of j x rest d more e = this (eqb k j) j x rest refl d e more
 
-pub kind-of : (k n1 n2 n3 n4 n5 : ℕ) (c : Call) → callOf k n1 n2 n3 n4 n5 ≡ Ok c → kindOf c ≡ k
+kind-named : (k n1 n2 n3 n4 n5 : ℕ) (c : Call) → callOf k n1 n2 n3 n4 n5 ≡ Ok c → kindOf c ≡ k
 unfolding callOf
-kind-of k n1 n2 n3 n4 n5 c =
+kind-named k n1 n2 n3 n4 n5 c =
     or-one-of k c 1 (Sample (signedOf n1)) _ refl
     (or-one-of k c 2 RemoteDisconnect _ refl
     (or-one-of k c 3 RemoteReconnect _ refl
@@ -41,3 +42,6 @@ kind-of k n1 n2 n3 n4 n5 c =
     (or-one-of k c 14 (ClearLog n1) _ refl
     (or-one-of k c 15 (Script n1) _ refl
     (λ e. cc)))))))))))))))
+
+pub laws : Laws
+laws = record { kind-named = kind-named }

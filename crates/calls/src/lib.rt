@@ -1,6 +1,7 @@
 // The calls that a meter takes, its answers, and the reading of a command: a kind and five numbers.
 ghost use mathlib.Core.Path.{_≡_};
 ghost use Rattle.calls.specs.Calls.{answerNumber, signedOf, callOf};
+ghost use Rattle.calls.specs.Laws.{Laws};
 
 // A call with its numbers, which stay 32 bits wide until they are judged.
 pub enum Call {
@@ -64,6 +65,7 @@ pub fn signed(n: u32) -> i32
 // All five numbers of a command are taken; a kind ignores those that it has no use for.
 pub fn read_kind(kind: u32, n1: u32, n2: u32, n3: u32, n4: u32, n5: u32) -> Parsed
     ensures { λ r. ⌜ r ≡ callOf kind n1 n2 n3 n4 n5 ⌝ }
+    ensures laws { λ _. ⌜ Laws ⌝ }
 {
     match kind {
         1 => Parsed::Ok(Call::Sample(signed(n1))),

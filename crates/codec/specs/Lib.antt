@@ -1,3 +1,4 @@
 pub mod BigEndian
 pub mod Format
 pub mod Lawful
+pub mod Examples

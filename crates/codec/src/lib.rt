@@ -9,6 +9,7 @@ ghost use lib.ListN.{length};
 ghost use lib.Seq.{sets};
 ghost use Rattle.codec.specs.BigEndian.{be};
 ghost use Rattle.codec.specs.Format.{numAt, flag};
+ghost use Rattle.codec.specs.Examples.{Examples};
 
 pub fn put_u8(out: &mut [u8], at: usize, v: u8)
     requires { ⌜ at + 1 ≤ length (now out) ⌝ }
@@ -104,6 +105,7 @@ pub fn get_u32(s: &[u8], at: usize) -> u32
 
 pub fn get_flag(s: &[u8], at: usize) -> bool
     ensures { λ r. ⌜ r ≡ flag .dec (now (s .entry)) at ⌝ }
+    ensures examples { λ _. ⌜ Examples ⌝ }
 {
     get_u8(s, at) == 1
 }

@@ -8,3 +8,4 @@ pub mod Account
 pub mod Splits
 pub mod Laws
 pub mod Examples
+pub mod Histories

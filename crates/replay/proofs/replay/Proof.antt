@@ -10,11 +10,11 @@ use borrow.Author.Tests.{eq-eqb, ne-eqb, lt-ltb, le-ltb}
 use Rattle.replay.specs.declared.Record.{Record}
 use Rattle.replay.specs.declared.Replayed.the-variants.{Written, Empty, Bad, Short, Refused}
 use Rattle.replay.specs.Replay.{recordLength, firstIn, startOf, unlessRefused, replayAnswer, replayed}
-use Rattle.history.specs.Effects.{Fresh}
 use Rattle.history.specs.Laws.{Laws as AccountLaws}
 use Rattle.history.specs.Examples.{WorkedExample}
+use Rattle.history.specs.Histories.{Histories}
 use Rattle.history.proofs.Laws as account
-use Rattle.history.proofs.Examples.{worked-example}
+use Rattle.history.proofs.Examples.{worked-example, histories}
 use Rattle.replay.specs.Laws.{Laws}
 use Rattle.replay.specs.Examples.{Examples}
 use Rattle.replay.proofs.Laws.{laws}
@@ -24,8 +24,8 @@ use Rattle.replay.proofs.replay.Statement.{statement}
 use Rattle.replay.proofs.replay.Tie as tie
 
 -- what is promised beside the equations, of every input alike
-claims : Laws × (AccountLaws × (WorkedExample × Examples))
-claims = (laws, (account.laws, (worked-example, examples)))
+claims : Laws × (AccountLaws × ((WorkedExample × Histories) × Examples))
+claims = (laws, (account.laws, ((worked-example, histories), examples)))
 
 -- the input and the buffer, as they came
 abbrev input : tie.Start → List ℕ

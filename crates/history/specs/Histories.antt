@@ -1,0 +1,177 @@
+-- One history for each sentence of the account, computed from the account alone.
+use Prim.Native.Nat.{ℕ}
+use mathlib.Core.Path.{_≡_}
+use mathlib.Core.Bool.{Bool, true, false}
+use mathlib.Core.Option.{none}
+use mathlib.Core.List.{List, [], _∷_, _++_, map}
+use lib.IntN.{pos, negsuc}
+use lib.ListN.{getD}
+use Rattle.events.specs.Line.{Line, line}
+use Rattle.calls.specs.declared.Call.{Call}
+use Rattle.calls.specs.declared.Call.the-variants.{Sample, RemoteDisconnect, RemoteReconnect, ManualDisconnect, ManualReconnect, SetMode, SetLimiter, SetClock, Event, SetAlarmFilter, SetErrorFilter, ClearAlarms, ClearErrors, ClearLog, Script}
+use Rattle.history.specs.Effects.{Fresh, remoteDisconnect, manualDisconnect, manualReconnect, sampled, requested}
+use Rattle.history.specs.Switch.{decides}
+use Rattle.history.specs.Account.{accountOf}
+use Rattle.history.specs.Examples.{fresh, builtInAccount, answer, codes}
+
+-- what a call is answered in modes 0 to 6
+abbrev pub answersByMode : Call → List ℕ
+answersByMode c = map (λ m. answer (fresh m 0 1 1 0) [] c) (0 ∷ 1 ∷ 2 ∷ 3 ∷ 4 ∷ 5 ∷ 6 ∷ [])
+
+-- a sample that is over
+abbrev pub overSample : Call
+overSample = Sample (pos 9)
+
+-- one that is not
+abbrev pub underSample : Call
+underSample = Sample (pos 3)
+
+-- the settings, Exceeded and Run
+abbrev pub limiterValues : Fresh → List Call → ℕ × ℕ × Bool × ℕ
+limiterValues f calls = let a = builtInAccount f calls in (a .over, a .under, a .exceeded, a .run)
+
+-- the switch after each call of a list
+abbrev pub switchAfterEach : Fresh → List Call → List Call → List ℕ
+switchAfterEach f calls [] = []
+switchAfterEach f calls (c ∷ cs) =
+    let all = calls ++ (c ∷ []) in
+    builtInAccount f all .switch ∷ switchAfterEach f all cs
+
+-- alarms, their filter, errors, theirs
+abbrev pub registerValues : List Call → ℕ × ℕ × ℕ × ℕ
+registerValues calls = let a = builtInAccount (fresh 1 3 1 1 1000) calls in (a .alarms, a .alarmFilter, a .errors, a .errorFilter)
+
+-- the three logs
+abbrev pub logLines : Fresh → List Call → List (List Line)
+logLines f calls = builtInAccount f calls .logs
+
+-- the histories, by the sentence that each shows
+pub record Histories : Type 0 where
+  -- 'a call's refusal follows from its numbers and the mode last accepted'
+  pub refusals :
+      map (answer (fresh 3 0 1 1 0) [])
+      (SetMode 6 ∷ SetMode 7 ∷ SetMode 256 ∷ RemoteDisconnect ∷ ManualDisconnect ∷ Script 0 ∷ Script 1 ∷ Script 2 ∷ Script 257
+      ∷ SetLimiter (pos 0) 86400 1 ∷ SetLimiter (negsuc 0) 0 0 ∷ SetLimiter (pos 0) 86401 1 ∷ SetLimiter (pos 0) 1 0
+      ∷ Event 68 ∷ Event 3 ∷ Event 262 ∷ ClearLog 3 ∷ ClearLog 0 ∷ ClearLog 257 ∷ [])
+      ≡ 0 ∷ 1 ∷ 1 ∷ 0 ∷ 2 ∷ 3 ∷ 0 ∷ 0 ∷ 3 ∷ 0 ∷ 4 ∷ 5 ∷ 5 ∷ 0 ∷ 6 ∷ 6 ∷ 0 ∷ 7 ∷ 7 ∷ []
+  -- 'calls 2–5, also by script: mode not in the switch table for that request'
+  pub mode-rule :
+      map answersByMode (RemoteDisconnect ∷ RemoteReconnect ∷ ManualDisconnect ∷ ManualReconnect ∷ Script 1 ∷ [])
+      ≡ (2 ∷ 0 ∷ 0 ∷ 0 ∷ 0 ∷ 0 ∷ 0 ∷ []) ∷ (2 ∷ 0 ∷ 0 ∷ 0 ∷ 0 ∷ 0 ∷ 0 ∷ []) ∷ (2 ∷ 0 ∷ 0 ∷ 2 ∷ 2 ∷ 0 ∷ 2 ∷ []) ∷ (2 ∷ 0 ∷ 0 ∷ 0 ∷ 0 ∷ 0 ∷ 0 ∷ [])
+      ∷ (2 ∷ 0 ∷ 0 ∷ 0 ∷ 0 ∷ 0 ∷ 0 ∷ []) ∷ []
+  -- the clock: 'last set, else fresh, plus samples since, held'
+  pub clock-of-samples : builtInAccount (fresh 1 0 1 1 1000) (Sample (pos 0) ∷ Event 1 ∷ Sample (pos 0) ∷ []) .clock ≡ 1002
+  pub clock-set : builtInAccount (fresh 1 0 1 1 1000) (Sample (pos 0) ∷ SetClock 50 ∷ Sample (pos 0) ∷ Sample (pos 0) ∷ []) .clock ≡ 52
+  pub clock-held : builtInAccount (fresh 1 0 1 1 1000) (SetClock 4294967295 ∷ Sample (pos 0) ∷ []) .clock ≡ 4294967295
+  -- 'it and the Over − 1 samples before it are all over'; power equal to the threshold is not over
+  pub stretch-short : limiterValues (fresh 6 3 3 3 1000) (overSample ∷ overSample ∷ []) ≡ (3, 3, false, 2)
+  pub stretch-full : limiterValues (fresh 6 3 3 3 1000) (overSample ∷ overSample ∷ overSample ∷ []) ≡ (3, 3, true, 0)
+  pub stretch-broken : limiterValues (fresh 6 3 3 3 1000) (overSample ∷ overSample ∷ underSample ∷ overSample ∷ []) ≡ (3, 3, false, 1)
+  -- 'a full under stretch likewise with Under and samples not over'
+  pub under-short : limiterValues (fresh 6 3 1 3 1000) (overSample ∷ underSample ∷ underSample ∷ []) ≡ (1, 3, true, 2)
+  pub under-full : limiterValues (fresh 6 3 1 3 1000) (overSample ∷ underSample ∷ underSample ∷ underSample ∷ []) ≡ (1, 3, false, 0)
+  -- 'none of them before those were set', by place in the list: the same numbers set again begin anew
+  pub setting-again : limiterValues (fresh 6 3 3 3 1000) (overSample ∷ SetLimiter (pos 3) 3 3 ∷ []) ≡ (3, 3, false, 0)
+  pub stretch-since-setting : limiterValues (fresh 6 3 2 2 1000) (overSample ∷ SetLimiter (pos 3) 2 2 ∷ overSample ∷ []) ≡ (2, 2, false, 1)
+  -- 'Other calls between don't break it'
+  pub stretch-between :
+      limiterValues (fresh 6 3 3 3 1000)
+      (overSample ∷ Event 1 ∷ overSample ∷ SetClock 5 ∷ ManualReconnect ∷ SetMode 2 ∷ ClearLog 1 ∷ SetAlarmFilter 0 ∷ ClearErrors 0 ∷ overSample ∷ [])
+      ≡ (3, 3, true, 0)
+  -- 'the latest full stretch, under any settings': a setting leaves Exceeded
+  pub exceeded-stays : limiterValues (fresh 6 3 1 1 1000) (overSample ∷ SetLimiter (pos 100) 5 4 ∷ overSample ∷ []) ≡ (5, 4, true, 1)
+  -- 'by the settings in force at that sample'
+  pub threshold-in-force : limiterValues (fresh 6 3 1 1 1000) (SetLimiter (pos 100) 1 1 ∷ overSample ∷ []) ≡ (1, 1, false, 0)
+  -- 'the last deciding call rules'
+  pub manual-decides :
+      switchAfterEach (fresh 1 3 1 1 1000) [] (ManualDisconnect ∷ ManualDisconnect ∷ ManualReconnect ∷ ManualReconnect ∷ [])
+      ≡ 2 ∷ 2 ∷ 1 ∷ 1 ∷ []
+  -- 'over firing outside mode 0', 'under firing in mode 5 or 6'
+  pub firings-decide :
+      map (λ m. switchAfterEach (fresh m 3 1 1 1000) [] (overSample ∷ underSample ∷ [])) (0 ∷ 1 ∷ 4 ∷ 5 ∷ 6 ∷ [])
+      ≡ (1 ∷ 1 ∷ []) ∷ (2 ∷ 2 ∷ []) ∷ (2 ∷ 2 ∷ []) ∷ (2 ∷ 1 ∷ []) ∷ (2 ∷ 1 ∷ []) ∷ []
+  -- 'A sample that changes Exceeded is a firing': none again while Exceeded, after a manual reconnect
+  pub firing-once : switchAfterEach (fresh 1 3 1 1 1000) [] (overSample ∷ ManualReconnect ∷ overSample ∷ []) ≡ 2 ∷ 1 ∷ 1 ∷ []
+  -- 'a remote reconnect ending a spell in mode 2 or 4' gives 1, 'in another mode' 2
+  pub reconnect-decides :
+      map (λ m. switchAfterEach (fresh m 3 1 1 1000) [] (RemoteDisconnect ∷ RemoteReconnect ∷ [])) (1 ∷ 2 ∷ 3 ∷ 4 ∷ 5 ∷ 6 ∷ [])
+      ≡ (0 ∷ 2 ∷ []) ∷ (0 ∷ 1 ∷ []) ∷ (0 ∷ 2 ∷ []) ∷ (0 ∷ 1 ∷ []) ∷ (0 ∷ 2 ∷ []) ∷ (0 ∷ 2 ∷ []) ∷ []
+  -- a remote reconnect that ends no spell decides nothing
+  pub reconnect-outside : switchAfterEach (fresh 1 3 1 1 1000) [] (RemoteReconnect ∷ ManualDisconnect ∷ RemoteReconnect ∷ []) ≡ 1 ∷ 2 ∷ 2 ∷ []
+  -- the mode at the time of the call counts, and a change of mode leaves the switch
+  pub mode-at-the-call : switchAfterEach (fresh 1 3 1 1 1000) [] (RemoteDisconnect ∷ SetMode 2 ∷ RemoteReconnect ∷ SetMode 3 ∷ []) ≡ 0 ∷ 0 ∷ 1 ∷ 1 ∷ []
+  -- 'Inside one the switch is 0'; the call that ends a spell is not inside it
+  pub spell-inside :
+      switchAfterEach (fresh 5 3 1 1 1000) []
+      (RemoteDisconnect ∷ ManualReconnect ∷ ManualDisconnect ∷ overSample ∷ underSample ∷ SetMode 6 ∷ RemoteDisconnect ∷ [])
+      ≡ 0 ∷ 0 ∷ 0 ∷ 0 ∷ 0 ∷ 0 ∷ 0 ∷ []
+  -- 'Calls inside a spell decide nothing': neither the key nor a sample that fires
+  pub inside-a-spell :
+      map (λ e. decides (fresh 5 3 1 1 1000) e (requested remoteDisconnect ∷ []))
+      (requested manualReconnect ∷ requested manualDisconnect ∷ sampled (pos 4) ∷ [])
+      ≡ none ∷ none ∷ none ∷ []
+  pub spell-ended-by-mode-zero : switchAfterEach (fresh 1 3 1 1 1000) [] (ManualDisconnect ∷ RemoteDisconnect ∷ SetMode 0 ∷ []) ≡ 2 ∷ 0 ∷ 1 ∷ []
+  -- openings: a move out of 1 alone, and held
+  pub openings-out-of-one :
+      builtInAccount (fresh 2 3 1 1 1000) (ManualDisconnect ∷ RemoteDisconnect ∷ RemoteReconnect ∷ RemoteDisconnect ∷ []) .openings ≡ 2
+  pub openings-held : accountOf (fresh 2 3 1 1 1000) [] 4294967296 .openings ≡ 4294967295
+  -- 'an event raised it': codes 6 and 16 have bits 0 and 11 in both registers, code 40 has alarm bit 13, code 1 has none
+  pub raised : registerValues (Event 6 ∷ Event 16 ∷ Event 40 ∷ Event 1 ∷ []) ≡ (10241, 0, 2049, 0)
+  -- 'A bit that is one in the filter at that moment is hidden and not set'
+  pub hidden : registerValues (SetAlarmFilter 1 ∷ Event 6 ∷ Event 7 ∷ SetAlarmFilter 0 ∷ []) ≡ (2, 0, 3, 0)
+  -- 'A later filter neither sets nor clears'
+  pub later-filter : registerValues (Event 6 ∷ SetAlarmFilter 1 ∷ SetErrorFilter 3 ∷ []) ≡ (1, 1, 1, 3)
+  -- 'no clear of it .. came later'
+  pub cleared : registerValues (Event 6 ∷ Event 7 ∷ ClearAlarms 1 ∷ []) ≡ (2, 0, 3, 0)
+  pub raised-again : registerValues (Event 6 ∷ ClearAlarms 1 ∷ ClearErrors 1 ∷ Event 6 ∷ []) ≡ (1, 0, 1, 0)
+  -- 'error bit 0: nor clock setting'; alarm bit 0 and error bit 1 stand
+  pub cleared-by-clock : registerValues (Event 6 ∷ Event 7 ∷ SetClock 5 ∷ []) ≡ (3, 0, 2, 0)
+  -- call 8: 'standard line 4 with the old clock, line 5 with the new'; calls 12, 13: 'standard line 11 or 10, mask 0 included';
+  -- call 9: 'one line in its log'
+  pub lines-standard :
+      logLines (fresh 1 3 1 1 1000)
+      (SetClock 50 ∷ ClearAlarms 0 ∷ Sample (pos 0) ∷ ClearErrors 0 ∷ Event 6 ∷ Event 40 ∷ Event 68 ∷ SetErrorFilter 1 ∷ Event 6 ∷ [])
+      ≡ (line 1000 4 ∷ line 50 5 ∷ line 50 11 ∷ line 51 10 ∷ line 51 6 ∷ line 51 6 ∷ []) ∷ (line 51 40 ∷ []) ∷ (line 51 68 ∷ []) ∷ []
+  -- 65 and 66 whatever the mode and position, 64 and 69 with a move alone; every line at the clock after the sample
+  pub lines-of-firings :
+      map (λ c. getD (logLines (fresh 5 3 1 1 1000) (c ∷ overSample ∷ underSample ∷ [])) 2 [])
+      (Sample (pos 0) ∷ RemoteDisconnect ∷ SetMode 0 ∷ SetMode 1 ∷ [])
+      ≡ (line 1002 65 ∷ line 1002 64 ∷ line 1003 66 ∷ line 1003 69 ∷ [])
+      ∷ (line 1000 62 ∷ line 1001 65 ∷ line 1002 66 ∷ [])
+      ∷ (line 1001 65 ∷ line 1002 66 ∷ [])
+      ∷ (line 1001 65 ∷ line 1001 64 ∷ line 1002 66 ∷ [])
+      ∷ []
+  -- the lines of the switch table, none where nothing moves; mode 0 logs 63 'if it was not 1'; call 7 logs 67
+  pub lines-of-moves :
+      codes (getD
+      (logLines (fresh 1 3 1 1 1000)
+      (ManualReconnect ∷ ManualDisconnect ∷ ManualDisconnect ∷ ManualReconnect ∷ RemoteDisconnect ∷ RemoteDisconnect ∷ RemoteReconnect
+      ∷ RemoteReconnect ∷ RemoteDisconnect ∷ SetMode 2 ∷ RemoteReconnect ∷ SetMode 0 ∷ SetMode 1 ∷ ManualDisconnect ∷ SetMode 0 ∷ SetLimiter (pos 3) 1 1 ∷ []))
+      2 [])
+      ≡ 60 ∷ 61 ∷ 62 ∷ 59 ∷ 62 ∷ 63 ∷ 60 ∷ 63 ∷ 67 ∷ []
+  -- 'since that log was last cleared, its 255 included'
+  pub lines-since-clear :
+      logLines (fresh 1 3 1 1 1000) (Event 1 ∷ Event 41 ∷ ClearLog 1 ∷ Sample (pos 0) ∷ Event 2 ∷ ClearLog 3 ∷ [])
+      ≡ (line 1000 255 ∷ line 1001 2 ∷ []) ∷ (line 1000 41 ∷ []) ∷ (line 1001 255 ∷ []) ∷ []
+  -- 'refused calls count for nothing', 'a list may be empty'
+  pub refused-counts-nothing :
+      builtInAccount (fresh 3 3 1 1 1000) (SetMode 7 ∷ ManualDisconnect ∷ SetLimiter (negsuc 0) 1 1 ∷ Event 3 ∷ ClearLog 0 ∷ Script 3 ∷ [])
+      ≡ builtInAccount (fresh 3 3 1 1 1000) []
+  pub empty :
+      builtInAccount (fresh 3 70 8 9 1000) []
+      ≡ record {
+        mode = 3;
+        switch = 1;
+        openings = 0;
+        threshold = pos 70;
+        over = 8;
+        under = 9;
+        exceeded = false;
+        run = 0;
+        clock = 1000;
+        alarms = 0;
+        alarmFilter = 0;
+        errors = 0;
+        errorFilter = 0;
+        logs = [] ∷ [] ∷ [] ∷ [];
+      }
