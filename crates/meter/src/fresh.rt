@@ -54,9 +54,9 @@ impl Outcome {
 }
 
 impl Meter {
-    // A meter with these settings: connected, with nothing counted, raised or logged. 1 for a mode
-    // above 6, judged at its full width; 4 if the threshold is negative, 5 if a duration is not 1 to
-    // 86,400.
+    // A meter with these settings: connected, with nothing counted, raised or logged. Refused with 1
+    // for a mode above 6, judged at its full width, with 4 if the threshold is negative, with 5 if a
+    // duration is not 1 to 86,400.
     pub fn fresh(mode: u32, threshold: i32, over: u32, under: u32, clock: u32) -> Outcome
         ensures { λ r. ⌜ r ≡ freshOf (settingsOf mode threshold over under clock) ⌝ }
         ensures laws { λ _. ⌜ FreshLaws ⌝ }
