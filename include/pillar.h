@@ -83,9 +83,9 @@ uint32_t pillar_fresh(uint8_t *page, size_t length, uint32_t mode,
 
 /*
  * One of the fifteen calls on the meter of a page, which is then the page of
- * the meter after it. `kind` is one of pillar_kind. Answers
- * PILLAR_LENGTH, PILLAR_PAIRS, PILLAR_UNSOUND, then PILLAR_KIND, then the
- * refusals of the call.
+ * the meter after it. `kind` is one of pillar_kind; any other is PILLAR_KIND,
+ * whatever the page holds. Then it answers PILLAR_LENGTH, PILLAR_PAIRS,
+ * PILLAR_UNSOUND, then the refusals of the call.
  */
 uint32_t pillar_call(uint8_t *page, size_t length, uint32_t kind, uint32_t n1,
                      uint32_t n2, uint32_t n3, uint32_t n4, uint32_t n5);

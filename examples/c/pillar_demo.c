@@ -89,6 +89,7 @@ int main(void)
     right &= refused("fresh into a short buffer", pillar_fresh(page, PILLAR_PAGE - 1, 5, 3000, 2, 3, 1000), PILLAR_BUFFER, page, before);
     right &= refused("call on a short page", pillar_call(page, PILLAR_PAGE - 1, 2, 0, 0, 0, 0, 0), PILLAR_LENGTH, page, before);
     right &= refused("call of kind 16", pillar_call(page, sizeof page, 16, 0, 0, 0, 0, 0), PILLAR_KIND, page, before);
+    right &= refused("call of kind 16 on a short page", pillar_call(page, PILLAR_PAGE - 1, 16, 0, 0, 0, 0, 0), PILLAR_KIND, page, before);
     right &= refused("list without a byte", pillar_replay(before, 0, page, sizeof page), PILLAR_EMPTY, page, before);
     right &= refused("list that does not begin with fresh", pillar_replay((const uint8_t[PILLAR_RECORD]){2}, PILLAR_RECORD, page, sizeof page), PILLAR_BAD, page, before);
 

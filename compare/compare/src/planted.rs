@@ -6,7 +6,7 @@ use plain::fault;
 
 type Run = fn(&Plan) -> Result<Counts, Box<Found>>;
 
-pub const PLANTED: [(&str, Run); 14] = [
+pub const PLANTED: [(&str, Run); 15] = [
     (
         "trips at power equal to threshold",
         run::<{ fault::TRIPS_AT_THRESHOLD }>,
@@ -56,5 +56,9 @@ pub const PLANTED: [(&str, Run); 14] = [
     (
         "reconnects locally in mode 4",
         run::<{ fault::LOCAL_RECONNECT_IN_4 }>,
+    ),
+    (
+        "judges a page before the kind of the call on it",
+        run::<{ fault::READS_BEFORE_KIND }>,
     ),
 ];

@@ -170,6 +170,7 @@ fn sweep_lengths<const FAULT: u8>(sides: &mut Sides<FAULT>, random: &mut Random)
         let mut bytes = page.to_vec();
         bytes.resize(length, random.byte());
         sides.inspect(&bytes, call(1, 0))?;
+        sides.inspect(&bytes, call(16, 0))?;
     }
     Ok(())
 }

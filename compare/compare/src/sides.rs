@@ -104,8 +104,9 @@ impl<const FAULT: u8> Sides<FAULT> {
 
         let mut ours = bytes.to_vec();
         let mut theirs = bytes.to_vec();
+        let answer = Machine::<FAULT>::call_on_page(&mut ours, call.kind, call.numbers);
         let plain = Outcome {
-            answer: plain_number(call_on_page::<FAULT>(&mut ours, call)),
+            answer: plain_number(answer),
             bytes: &ours,
         };
         let pillar = Outcome {
@@ -178,12 +179,6 @@ fn fresh_meter<const FAULT: u8>(settings: Settings) -> Result<Machine<FAULT>, u8
         clock,
     } = settings;
     Machine::fresh(mode, threshold, over, under, clock)
-}
-
-fn call_on_page<const FAULT: u8>(page: &mut [u8], call: Call) -> Result<(), u8> {
-    let mut meter = Machine::<FAULT>::read_page(page)?;
-    meter.command(call.kind, call.numbers)?;
-    meter.write_page(page)
 }
 
 fn plain_number(answer: Result<(), u8>) -> u32 {

@@ -33,3 +33,5 @@ pub const READS_ANY_EXCEEDED: u8 = 12;
 pub const IGNORES_SAME_LIMITER: u8 = 13;
 /// A local reconnect (h) in mode 4 too.
 pub const LOCAL_RECONNECT_IN_4: u8 = 14;
+/// A call on a page judges the page before the kind.
+pub const READS_BEFORE_KIND: u8 = 15;

@@ -288,6 +288,33 @@ fn an_unsound_record_is_refused_by_every_call_and_the_writer() {
     assert_eq!(meter, before);
 }
 
+/// "the command's reading fails before the record is touched"
+#[test]
+fn a_call_on_a_page_judges_the_kind_first() {
+    let good = page_of(&example());
+    let mut other_pair = good;
+    other_pair[0] ^= 1;
+    let mut unsound = good;
+    unsound[32] = 7;
+    let pages = [
+        (&good[..], 0),
+        (&good[..557], refusal::LENGTH),
+        (&other_pair, refusal::PAIR),
+        (&unsound, refusal::UNSOUND_PAGE),
+    ];
+    for (page, expected) in pages {
+        let call = |kind| {
+            let mut after = page.to_vec();
+            let answer = Meter::call_on_page(&mut after, kind, [0; 5]);
+            assert!(answer.is_ok() || after == page);
+            answer.err().unwrap_or(0)
+        };
+        assert_eq!(call(10), expected);
+        assert_eq!(call(0), refusal::KIND);
+        assert_eq!(call(16), refusal::KIND);
+    }
+}
+
 /// The switch table, each mode and position: answer, position, line.
 #[test]
 fn requests_follow_the_switch_table() {

@@ -58,7 +58,14 @@ impl<const VECTORS: bool> Side for Plain<VECTORS> {
     }
 
     fn call_on_page(&self, page: &mut Page, call: Call, rounds: u32) -> u32 {
-        let answer = |_| number(call_on_page::<VECTORS>(black_box(page), call));
+        let Call { kind, numbers } = call;
+        let answer = |_| {
+            number(Faultless::<VECTORS>::call_on_page(
+                black_box(page),
+                kind,
+                numbers,
+            ))
+        };
         (0..rounds).map(answer).sum()
     }
 
@@ -66,12 +73,6 @@ impl<const VECTORS: bool> Side for Plain<VECTORS> {
         let answer = |_| number(Faultless::<VECTORS>::replay(black_box(list), page));
         (0..rounds).map(answer).sum()
     }
-}
-
-fn call_on_page<const VECTORS: bool>(page: &mut Page, call: Call) -> Answer {
-    let mut meter = Faultless::<VECTORS>::read_page(page)?;
-    meter.command(call.kind, call.numbers)?;
-    meter.write_page(page)
 }
 
 fn number(answer: Answer) -> u32 {

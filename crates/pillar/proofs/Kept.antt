@@ -6,10 +6,15 @@ use mathlib.Core.List.{List}
 use Prim.Native.Nat.{ℕ}
 use Rattle.calls.specs.declared.Answer.{Answer}
 use Rattle.calls.specs.declared.Answer.the-variants.{Accepted, Refused}
+use Rattle.calls.specs.declared.Call.{Call}
+use Rattle.calls.specs.declared.Parsed.{Parsed}
+use Rattle.calls.specs.declared.Parsed.the-variants.{Ok, NoKind}
 use Rattle.calls.specs.Calls.{answerNumber}
+use Rattle.events.specs.Table.{builtIn}
 use Rattle.meter.specs.declared.Outcome.{Outcome}
+use Rattle.meter.specs.Machine.{applied}
 use Rattle.page.specs.Layout.{writeAnswer, written, readOf}
-use Rattle.pillar.specs.Interface.{outcomeOn, keptNumber, keptPage, callNumber, callPage}
+use Rattle.pillar.specs.Interface.{outcomeOn, keptNumber, keptPage, performedNumber, performedPage}
 
 module _ (o : Outcome) (page : List ℕ) where
   pub kept-refused : (n : ℕ) → o .answer ≡ Refused n → (n ≡ keptNumber o page) × (page ≡ keptPage o page)
@@ -21,20 +26,21 @@ module _ (o : Outcome) (page : List ℕ) where
   unfolding keptNumber keptPage
   kept-written r a after e number wrote = (rw e (number ∙ ap answerNumber (wrote .0)), rw e (wrote .1))
 
-module _ (page : List ℕ) (kind n1 n2 n3 n4 n5 : ℕ) (read : Outcome) (reads : read ≡ readOf page) where
-  pub call-refused : (n : ℕ) → read .answer ≡ Refused n
-      → (n ≡ callNumber page kind n1 n2 n3 n4 n5) × (page ≡ callPage page kind n1 n2 n3 n4 n5)
-  unfolding callNumber callPage
-  call-refused n e =
-      let refused : readOf page .answer ≡ Refused n = ap (λ (o : Outcome). o .answer) (sym reads) ∙ e in
-      (rw refused, rw refused)
+module _ (page : List ℕ) (p : Parsed) where
+  pub call-no-kind : p ≡ NoKind → (13 ≡ performedNumber page p) × (page ≡ performedPage page p)
+  call-no-kind e = (rw e, rw e)
 
-  pub call-kept : (r : ℕ) (o : Outcome) (after : List ℕ) → read .answer ≡ Accepted → o ≡ outcomeOn (read .meter) kind n1 n2 n3 n4 n5
-      → (r ≡ keptNumber o page) × (after ≡ keptPage o page)
-      → (r ≡ callNumber page kind n1 n2 n3 n4 n5) × (after ≡ callPage page kind n1 n2 n3 n4 n5)
-  unfolding callNumber callPage
-  call-kept r o after e commands kept =
-      let accepted : readOf page .answer ≡ Accepted = ap (λ (o : Outcome). o .answer) (sym reads) ∙ e in
-      let outcome : o ≡ outcomeOn (readOf page .meter) kind n1 n2 n3 n4 n5 =
-      commands ∙ ap (λ (o : Outcome). outcomeOn (o .meter) kind n1 n2 n3 n4 n5) reads in
-      (rw accepted (kept .0 ∙ ap (λ (o : Outcome). keptNumber o page) outcome), rw accepted (kept .1 ∙ ap (λ (o : Outcome). keptPage o page) outcome))
+  module _ (c : Call) (names : p ≡ Ok c) (read : Outcome) (reads : read ≡ readOf page) where
+    pub call-refused : (n : ℕ) → read .answer ≡ Refused n → (n ≡ performedNumber page p) × (page ≡ performedPage page p)
+    call-refused n e =
+        let refused : readOf page .answer ≡ Refused n = ap (λ (o : Outcome). o .answer) (sym reads) ∙ e in
+        (rw (names, refused), rw (names, refused))
+
+    pub call-kept : (r : ℕ) (o : Outcome) (after : List ℕ) → read .answer ≡ Accepted → o ≡ applied builtIn (read .meter) c
+        → (r ≡ keptNumber o page) × (after ≡ keptPage o page) → (r ≡ performedNumber page p) × (after ≡ performedPage page p)
+    call-kept r o after e applies kept =
+        let accepted : readOf page .answer ≡ Accepted = ap (λ (o : Outcome). o .answer) (sym reads) ∙ e in
+        let outcome : o ≡ outcomeOn page c = applies ∙ ap (λ (o : Outcome). applied builtIn (o .meter) c) reads in (
+          rw (names, accepted) (kept .0 ∙ ap (λ (o : Outcome). keptNumber o page) outcome),
+          rw (names, accepted) (kept .1 ∙ ap (λ (o : Outcome). keptPage o page) outcome),
+        )

@@ -9,6 +9,7 @@ use native.Mathlib.Omega.{arith}
 use lib.Dec.{eqb, leb}
 use lib.ListN.{length, drop-of-length-le}
 use borrow.Author.Tests.{le-leb}
+use Rattle.base.specs.Tests.{within}
 use Rattle.codec.specs.Lawful.{Bytes}
 use Rattle.events.specs.Table.{builtIn}
 use Rattle.logs.specs.Layout.{Sized}
@@ -18,6 +19,7 @@ use Rattle.calls.specs.declared.Answer.the-variants.{Accepted, Refused}
 use Rattle.calls.specs.declared.Parsed.{Parsed}
 use Rattle.calls.specs.declared.Parsed.the-variants.{Ok, NoKind}
 use Rattle.calls.specs.Calls.{answerNumber, InRange, AllInRange}
+use Rattle.pillar.proofs.Calls.{no-call, some-call}
 use Rattle.history.specs.Effects.{Fresh}
 use Rattle.history.specs.Account.{account}
 use Rattle.meter.specs.declared.Meter.{Meter}
@@ -37,7 +39,7 @@ use Rattle.page.proofs.Ranges.{account-typed}
 use Rattle.page.proofs.Printed.{list-written}
 use Rattle.replay.specs.declared.Record.{Record}
 use Rattle.replay.specs.Replay.{parsedIn, withCall, callsIn, nextOf, meterAfter}
-use Rattle.pillar.specs.Interface.{numberOr, bytesOr, keptNumber, keptPage, outcomeOn, callNumber, callPage}
+use Rattle.pillar.specs.Interface.{numberOr, bytesOr, keptNumber, keptPage, outcomeOn, performedNumber, performedPage, callNumber, callPage}
 use Rattle.pillar.proofs.Kept.{kept-refused}
 use Rattle.pillar.specs.Laws.{freshPageOf, callNumberOf, callPageOf, callPages, Laws}
 
@@ -79,14 +81,29 @@ kept-same o page some = go (o .answer) (writeAnswer (o .meter) page) refl some
 
 call-same : (page : List ℕ) (r : Record) → (callNumberOf page r ≡ 0 → ⊥) → callPageOf page r ≡ page
 unfolding callNumber callPage
-call-same page r some = go (readOf page .answer) some
+call-same page r some = go (parsedIn r) some
   where
-    o : Outcome
-    o = outcomeOn (readOf page .meter) (r .kind) (r .n1) (r .n2) (r .n3) (r .n4) (r .n5)
+    read : (o : Outcome) (a : Answer) → (numberOr a (keptNumber o page) ≡ 0 → ⊥) → bytesOr a (keptPage o page) page ≡ page
+    read o Accepted some = kept-same o page some
+    read o (Refused n) some = refl
 
-    go : (a : Answer) → (numberOr a (keptNumber o page) ≡ 0 → ⊥) → bytesOr a (keptPage o page) page ≡ page
-    go Accepted some = kept-same o page some
-    go (Refused n) some = refl
+    go : (p : Parsed) → (performedNumber page p ≡ 0 → ⊥) → performedPage page p ≡ page
+    go (Ok c) some = read (outcomeOn page c) (readOf page .answer) some
+    go NoKind some = refl
+
+-- ---- the kind comes first
+
+no-kind : (page : List ℕ) (r : Record) → within 1 15 (r .kind) ≡ false → callNumberOf page r ≡ 13
+unfolding callNumber
+no-kind page r out = rw (no-call (r .kind) (r .n1) (r .n2) (r .n3) (r .n4) (r .n5) out)
+
+unread : (page : List ℕ) (r : Record) (n : ℕ) → within 1 15 (r .kind) ≡ true → readOf page .answer ≡ Refused n → callNumberOf page r ≡ n
+unfolding callNumber
+unread page r n kind e = go (parsedIn r) refl
+  where
+    go : (p : Parsed) → parsedIn r ≡ p → performedNumber page p ≡ n
+    go (Ok c) names = rw e
+    go NoKind names = absurd (some-call (r .kind) (r .n1) (r .n2) (r .n3) (r .n4) (r .n5) kind names)
 
 -- ---- a call on a page that is read
 
@@ -110,10 +127,26 @@ module _ {page : List ℕ} {m : Meter} (k : Read page m) (r : Record) (i : AllIn
   whole : length page ≡ size
   whole = ap length (sym (k .back)) ∙ roundtrip.page-length m
 
+  -- the reader is through: what is left is the machine's outcome
+  number-read : callNumberOf page r ≡ keptNumber (nextOf m r) page
+  unfolding callNumber commanded keptNumber
+  number-read = go (parsedIn r)
+    where
+      go : (p : Parsed) → performedNumber page p ≡ keptNumber (performed builtIn m p) page
+      go (Ok c) = ap (λ (o : Outcome). numberOr (o .answer) (keptNumber (applied builtIn (o .meter) c) page)) (k .reads)
+      go NoKind = refl
+
+  page-read : callPageOf page r ≡ keptPage (nextOf m r) page
+  unfolding callPage commanded keptPage
+  page-read = go (parsedIn r)
+    where
+      go : (p : Parsed) → performedPage page p ≡ keptPage (performed builtIn m p) page
+      go (Ok c) = ap (λ (o : Outcome). bytesOr (o .answer) (keptPage (applied builtIn (o .meter) c) page) page) (k .reads)
+      go NoKind = refl
+
   answer-on : callNumberOf page r ≡ answerNumber (nextOf m r .answer)
-  unfolding callNumber
   answer-on =
-      ap (λ (o : Outcome). numberOr (o .answer) (keptNumber (nextOf (o .meter) r) page)) (k .reads)
+      number-read
       ∙ kept-answer (nextOf m r) page (λ e. next-sound)
       ∙ rw (full (nextOf m r) page whole) (go (nextOf m r .answer))
     where
@@ -122,10 +155,7 @@ module _ {page : List ℕ} {m : Meter} (k : Read page m) (r : Record) (i : AllIn
       go (Refused n) = refl
 
   page-on : callPageOf page r ≡ pageOf (nextOf m r .meter)
-  unfolding callPage
-  page-on =
-      ap (λ (o : Outcome). bytesOr (o .answer) (keptPage (nextOf (o .meter) r) page) page) (k .reads)
-      ∙ go (nextOf m r .answer) refl
+  page-on = page-read ∙ go (nextOf m r .answer) refl
     where
       o : Outcome
       o = nextOf m r
@@ -231,6 +261,8 @@ unfolding callsIn
 laws =
     record {
       fresh-answer = λ page f range. kept-answer (freshOf f) page (fresh-sound f range);
+      call-no-kind = no-kind;
+      call-unread = unread;
       call-answer = λ page r bytes e i. answer-on (from-page page bytes e) r i;
       call-page = λ page r bytes e i. page-on (from-page page bytes e) r i;
       fresh-refused = λ page f. kept-same (freshOf f) page;

@@ -4,12 +4,14 @@ use mathlib.Core.List.{List}
 use Prim.Native.Nat.{ℕ}
 use lib.IntN.{ℤ}
 use Rattle.events.specs.Table.{builtIn}
+use Rattle.calls.specs.declared.Call.{Call}
 use Rattle.calls.specs.declared.Answer.{Answer}
 use Rattle.calls.specs.declared.Answer.the-variants as answer
-use Rattle.calls.specs.Calls.{answerNumber}
-use Rattle.meter.specs.declared.Meter.{Meter}
+use Rattle.calls.specs.declared.Parsed.{Parsed}
+use Rattle.calls.specs.declared.Parsed.the-variants.{Ok, NoKind}
+use Rattle.calls.specs.Calls.{answerNumber, callOf}
 use Rattle.meter.specs.declared.Outcome.{Outcome}
-use Rattle.meter.specs.Machine.{commanded}
+use Rattle.meter.specs.Machine.{applied}
 use Rattle.meter.specs.Settings.{settingsOf}
 use Rattle.meter.specs.Fresh.{freshOf}
 use Rattle.page.specs.Layout.{writeAnswer, written, readOf}
@@ -42,19 +44,27 @@ freshNumber page mode threshold over under clock = keptNumber (freshOf (settings
 abbrev pub freshPage : List ℕ → ℕ → ℤ → ℕ → ℕ → ℕ → List ℕ
 freshPage page mode threshold over under clock = keptPage (freshOf (settingsOf mode threshold over under clock)) page
 
--- a kind and five numbers as a command on the record of a page
-abbrev pub outcomeOn : Meter → ℕ → ℕ → ℕ → ℕ → ℕ → ℕ → Outcome
-outcomeOn m kind n1 n2 n3 n4 n5 = commanded builtIn m kind n1 n2 n3 n4 n5
+-- a call on the record of a page
+abbrev pub outcomeOn : List ℕ → Call → Outcome
+outcomeOn page c = applied builtIn (readOf page .meter) c
 
--- 'reader | 9 | ..', 10, 11; 'kind | 13 | not 1–15'; then the call's own
-unfoldable pub callNumber : List ℕ → ℕ → ℕ → ℕ → ℕ → ℕ → ℕ → ℕ
-callNumber page kind n1 n2 n3 n4 n5 =
-    numberOr (readOf page .answer) (keptNumber (outcomeOn (readOf page .meter) kind n1 n2 n3 n4 n5) page)
+-- 'kind | 13 | not 1–15; the command's reading fails before the record is touched': before 'reader | 9 | ..', 10, 11; then the call's own
+abbrev pub performedNumber : List ℕ → Parsed → ℕ
+performedNumber page (Ok c) = numberOr (readOf page .answer) (keptNumber (outcomeOn page c) page)
+performedNumber page NoKind = 13
 
 -- the bytes afterwards: the page of the record that the call handed back, or as they were on a refusal
+abbrev pub performedPage : List ℕ → Parsed → List ℕ
+performedPage page (Ok c) = bytesOr (readOf page .answer) (keptPage (outcomeOn page c) page) page
+performedPage page NoKind = page
+
+-- a kind and five numbers as a command on the record of a page
+unfoldable pub callNumber : List ℕ → ℕ → ℕ → ℕ → ℕ → ℕ → ℕ → ℕ
+callNumber page kind n1 n2 n3 n4 n5 = performedNumber page (callOf kind n1 n2 n3 n4 n5)
+
+-- the page that it leaves
 unfoldable pub callPage : List ℕ → ℕ → ℕ → ℕ → ℕ → ℕ → ℕ → List ℕ
-callPage page kind n1 n2 n3 n4 n5 =
-    bytesOr (readOf page .answer) (keptPage (outcomeOn (readOf page .meter) kind n1 n2 n3 n4 n5) page) page
+callPage page kind n1 n2 n3 n4 n5 = performedPage page (callOf kind n1 n2 n3 n4 n5)
 
 -- what became of a list as a number: 0 where its page is written; 'Empty input', `bad` and `short` above every refusal
 abbrev pub replayNumber : Replayed → ℕ

@@ -1,13 +1,14 @@
 -- What holds of the C interface: what a reader wants beside the definitions.
 use mathlib.Core.Path.{_≡_}
-use mathlib.Core.Bool.{cond}
+use mathlib.Core.Bool.{true, false, cond}
 use mathlib.Core.List.{List, [], _∷_}
 use Prim.Native.Nat.{ℕ}
 use lib.Dec.{leb}
 use lib.ListN.{length}
+use Rattle.base.specs.Tests.{within}
 use Rattle.codec.specs.Lawful.{Bytes}
 use Rattle.events.specs.Table.{builtIn}
-use Rattle.calls.specs.declared.Answer.the-variants.{Accepted}
+use Rattle.calls.specs.declared.Answer.the-variants.{Accepted, Refused}
 use Rattle.calls.specs.Calls.{answerNumber, AllInRange}
 use Rattle.history.specs.Effects.{Fresh}
 use Rattle.history.specs.Account.{account}
@@ -41,10 +42,14 @@ callPages page (r ∷ rs) = callPages (callPageOf page r) rs
 
 -- of `pillar_fresh`, of `pillar_call`, and of calls one after the other
 pub record Laws : Type 0 where
-  -- the writer refuses only a short buffer: fresh never answers 12 ..
+  -- the writer refuses only a short buffer: fresh never answers 12
   pub fresh-answer : (page : List ℕ) (f : Fresh) → SettingsInRange f
       → freshNumberOf page f ≡ numberOr (freshOf f .answer) (cond (leb size (length page)) 0 8)
-  -- .. and a call on a page that is read answers as the machine does
+  -- 'kind | 13 | not 1–15; the command's reading fails before the record is touched': whatever the page holds
+  pub call-no-kind : (page : List ℕ) (r : Record) → within 1 15 (r .kind) ≡ false → callNumberOf page r ≡ 13
+  -- of a kind from 1 to 15 the reader's refusal of the page comes next
+  pub call-unread : (page : List ℕ) (r : Record) (n : ℕ) → within 1 15 (r .kind) ≡ true → readOf page .answer ≡ Refused n → callNumberOf page r ≡ n
+  -- a call on a page that is read answers as the machine does
   pub call-answer : (page : List ℕ) (r : Record) → Bytes page → readOf page .answer ≡ Accepted → AllInRange (callsIn (r ∷ []))
       → callNumberOf page r ≡ answerNumber (nextOf (readOf page .meter) r .answer)
   -- it leaves the page of the record that the machine hands back, accepted or refused

@@ -6,6 +6,7 @@ ghost use mathlib.Core.Path.{_≡_};
 ghost use Rattle.replay.specs.Replay.{replayAnswer, replayed};
 ghost use Rattle.pillar.specs.Interface.{keptNumber, keptPage, freshNumber, freshPage, callNumber, callPage, replayNumber, checkNumber};
 use calls::Answer;
+use calls::Parsed;
 use meter::Meter;
 use meter::Outcome;
 use replay::Replayed;
@@ -50,8 +51,8 @@ pub extern "C" fn pillar_fresh(
     keep(Meter::fresh(mode, threshold, over, under, clock), page)
 }
 
-// One call on the meter of a page, which is then that of the meter after it: 9, 10 and 11 as
-// `pillar_check`, 13 for a kind other than 1 to 15, then the call's own refusals.
+// One call on the meter of a page, which is then that of the meter after it: 13 for a kind other than
+// 1 to 15, whatever the page, then 9, 10 and 11 as `pillar_check`, then the call's own refusals.
 #[no_mangle]
 pub extern "C" fn pillar_call(
     page: &mut [u8],
@@ -64,12 +65,16 @@ pub extern "C" fn pillar_call(
 ) -> u32
     ensures { λ r. ⌜ (r ≡ callNumber (now (page .entry)) kind n1 n2 n3 n4 n5) × (now (page .exit) ≡ callPage (now (page .entry)) kind n1 n2 n3 n4 n5) ⌝ }
 {
+    let parsed = calls::read_kind(kind, n1, n2, n3, n4, n5);
+    let Parsed::Ok(call) = parsed else {
+        return 13;
+    };
     let read = page::read_page(page);
     let answer = read.answer;
     if let Answer::Refused(number) = answer {
         return number as u32;
     }
-    keep(read.meter.command(kind, n1, n2, n3, n4, n5), page)
+    keep(read.meter.apply(call), page)
 }
 
 // Runs a whole list of 21-byte records, the first of which is fresh, and writes the page of its

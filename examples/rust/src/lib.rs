@@ -39,8 +39,8 @@ pub fn fresh(page: &mut [u8], settings: Settings) -> Answer {
     answer(core::fresh(page, settings))
 }
 
-/// Runs one call on the meter whose page is lent: 9, 10 or 11 from the reader,
-/// then 13, then the call's own refusal.
+/// Runs one call on the meter whose page is lent: 13 by the kind, then 9, 10
+/// or 11 from the reader, then the call's own refusal.
 pub fn call(page: &mut [u8], kind: u32, numbers: [u32; 5]) -> Answer {
     answer(core::call(page, kind, numbers))
 }

@@ -17,7 +17,7 @@ pub fn fresh(page: &mut [u8], settings: Settings) -> u32 {
 }
 
 pub fn call(page: &mut [u8], kind: u32, numbers: [u32; 5]) -> u32 {
-    number(call_on_page(page, kind, numbers))
+    number(Meter::call_on_page(page, kind, numbers))
 }
 
 pub fn replay(records: &[u8], page: &mut [u8]) -> u32 {
@@ -26,12 +26,6 @@ pub fn replay(records: &[u8], page: &mut [u8]) -> u32 {
 
 pub fn check(page: &[u8]) -> u32 {
     number(Meter::read_page(page).map(|_| ()))
-}
-
-fn call_on_page(page: &mut [u8], kind: u32, numbers: [u32; 5]) -> Result<(), u8> {
-    let mut meter = Meter::read_page(page)?;
-    meter.command(kind, numbers)?;
-    meter.write_page(page)
 }
 
 fn number(answer: Result<(), u8>) -> u32 {

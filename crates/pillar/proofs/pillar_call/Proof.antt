@@ -1,9 +1,26 @@
--- `pillar_call` meets its contract: a page that the reader refuses returns at once; the outcome of the command is kept.
--- Assumes nothing.
+-- `pillar_call` meets its contract: a kind that names no call returns at once, then a page that the reader refuses; the outcome of the call is kept.
 use borrow.Author.Needs.{needs}
-use Rattle.pillar.proofs.Kept.{call-refused, call-kept}
+use Rattle.pillar.specs.Interface.{callNumber, callPage}
+use Rattle.pillar.proofs.Kept.{call-no-kind, call-refused, call-kept}
 use Rattle.pillar.proofs.pillar_call.Statement.{statement}
 use Rattle.pillar.proofs.pillar_call.Tie as tie
+
+read-kind-requires : tie.Need-read-kind-requires
+read-kind-requires c κs = search needs
+
+enum-known-parsed : tie.Need-enum-known-parsed
+enum-known-parsed c = search needs
+
+enum-told : tie.Need-enum-told
+enum-told c = search needs
+
+-- the command's reading, and that it named a call
+abbrev reading : tie.After-read-page → tie.After-parsed
+reading c = c .before .before .before
+
+returns : tie.Need-returns
+unfolding callNumber callPage
+returns c = rw (← c .before .before .read-kind .ensures .0) (call-no-kind _ _ (c .enum-told .given .1))
 
 read-page-requires : tie.Need-read-page-requires
 read-page-requires c κs = search needs
@@ -17,14 +34,18 @@ cast-result c = search needs
 same-length : tie.Need-same-length
 same-length c = search needs
 
-returns : tie.Need-returns
-returns c = call-refused _ _ _ _ _ _ _ _ (c .before .before .before .read-page .ensures .0) _ (c .before .answer .given .1)
+returns-2 : tie.Need-returns-2
+unfolding callNumber callPage
+returns-2 c =
+    let read = c .before .before .before in
+    let parsed = reading read in
+    rw (← parsed .before .before .read-kind .ensures .0) (call-refused _ _ _ (parsed .parsed .given .1) _ (read .read-page .ensures .0) _ (c .before .answer .given .1))
 
-enum-told : tie.Need-enum-told
-enum-told c = search needs
+enum-told-2 : tie.Need-enum-told-2
+enum-told-2 c = search needs
 
-command-requires : tie.Need-command-requires
-command-requires c κs = search needs
+apply-requires : tie.Need-apply-requires
+apply-requires c κs = search needs
 
 keep-requires : tie.Need-keep-requires
 keep-requires c κs = search needs
@@ -32,22 +53,30 @@ keep-requires c κs = search needs
 same-length-2 : tie.Need-same-length-2
 same-length-2 c = search needs
 
-returns-2 : tie.Need-returns-2
-returns-2 c =
-    let command = c .before .before .before .before in
-    call-kept _ _ _ _ _ _ _ _ (command .before .before .before .read-page .ensures .0) _ _ _ (command .before .enum-told .given .1) (command .command .ensures) (c .before .before .keep .ensures)
+returns-3 : tie.Need-returns-3
+unfolding callNumber callPage
+returns-3 c =
+    let apply = c .before .before .before .before in
+    let read = apply .before .before .before in
+    let parsed = reading read in
+    rw (← parsed .before .before .read-kind .ensures .0)
+    (call-kept _ _ _ (parsed .parsed .given .1) _ (read .read-page .ensures .0) _ _ _ (apply .before .enum-told2 .given .1) (apply .apply .ensures .0) (c .before .before .keep .ensures))
 
 pub pillar-call-spec : {M : Type 1} → statement M
 pillar-call-spec =
     tie.close
     (tie.spec
+    read-kind-requires
+    enum-known-parsed
+    enum-told
+    returns
     read-page-requires
     enum-known-answer
     cast-result
     same-length
-    returns
-    enum-told
-    command-requires
+    returns-2
+    enum-told-2
+    apply-requires
     keep-requires
     same-length-2
-    returns-2)
+    returns-3)
