@@ -19,7 +19,7 @@ use Rattle.calls.specs.declared.Answer.the-variants.{Accepted, Refused}
 use Rattle.calls.specs.declared.Parsed.{Parsed}
 use Rattle.calls.specs.declared.Parsed.the-variants.{Ok, NoKind}
 use Rattle.calls.specs.Calls.{answerNumber, InRange, AllInRange}
-use Rattle.pillar.proofs.Calls.{no-call, some-call}
+use Rattle.calls.proofs.Named.{laws as call-laws}
 use Rattle.history.specs.Effects.{Fresh}
 use Rattle.history.specs.Account.{account}
 use Rattle.meter.specs.declared.Meter.{Meter}
@@ -95,7 +95,7 @@ call-same page r some = go (parsedIn r) some
 
 no-kind : (page : List ℕ) (r : Record) → within 1 15 (r .kind) ≡ false → callNumberOf page r ≡ 13
 unfolding callNumber
-no-kind page r out = rw (no-call (r .kind) (r .n1) (r .n2) (r .n3) (r .n4) (r .n5) out)
+no-kind page r out = rw (call-laws .no-kind (r .kind) (r .n1) (r .n2) (r .n3) (r .n4) (r .n5) out)
 
 unread : (page : List ℕ) (r : Record) (n : ℕ) → within 1 15 (r .kind) ≡ true → readOf page .answer ≡ Refused n → callNumberOf page r ≡ n
 unfolding callNumber
@@ -103,7 +103,7 @@ unread page r n kind e = go (parsedIn r) refl
   where
     go : (p : Parsed) → parsedIn r ≡ p → performedNumber page p ≡ n
     go (Ok c) names = rw e
-    go NoKind names = absurd (some-call (r .kind) (r .n1) (r .n2) (r .n3) (r .n4) (r .n5) kind names)
+    go NoKind names = absurd (call-laws .some-kind (r .kind) (r .n1) (r .n2) (r .n3) (r .n4) (r .n5) kind names)
 
 -- ---- a call on a page that is read
 
