@@ -119,5 +119,5 @@ examples =
 
 -- what the writer promises, by what it answers and leaves
 pub writer-promises : (m : Meter) (out : List ℕ) (a : Answer) (left : List ℕ) → Typed m → (a ≡ writeAnswer m out) × (left ≡ written m out)
-    → ((a ≡ writeAnswer m out) × (left ≡ written m out)) × ((a ≡ Accepted → readOf (take size left) ≡ acceptedOutcome m) × Demand3)
-writer-promises m out a left t e = (e, (λ h. rw (e .1) (laws .read-written m out t (sym (e .0) ∙ h)), demand-3))
+    → ((a ≡ writeAnswer m out) × (left ≡ written m out)) × ((a ≡ Accepted → readOf (take size left) ≡ acceptedOutcome m) × (Demand3 × Examples))
+writer-promises m out a left t e = (e, (λ h. rw (e .1) (laws .read-written m out t (sym (e .0) ∙ h)), (demand-3, examples)))

@@ -18,7 +18,7 @@ use Rattle.calls.specs.declared.Answer.{Answer}
 use Rattle.calls.specs.declared.Answer.the-variants.{Accepted, Refused}
 use Rattle.calls.specs.declared.Parsed.{Parsed}
 use Rattle.calls.specs.declared.Parsed.the-variants.{Ok, NoKind}
-use Rattle.calls.specs.Calls.{answerNumber, InRange, AllInRange}
+use Rattle.calls.specs.Calls.{answerNumber, callOf, InRange, AllInRange}
 use Rattle.calls.proofs.Named.{laws as call-laws}
 use Rattle.history.specs.Effects.{Fresh}
 use Rattle.history.specs.Account.{account}
@@ -93,17 +93,18 @@ call-same page r some = go (parsedIn r) some
 
 -- ---- the kind comes first
 
-no-kind : (page : List ℕ) (r : Record) → within 1 15 (r .kind) ≡ false → callNumberOf page r ≡ 13
-unfolding callNumber
-no-kind page r out = rw (call-laws .no-kind (r .kind) (r .n1) (r .n2) (r .n3) (r .n4) (r .n5) out)
+module _ (page : List ℕ) (kind n1 n2 n3 n4 n5 : ℕ) where
+  no-kind : within 1 15 kind ≡ false → callNumber page kind n1 n2 n3 n4 n5 ≡ 13
+  unfolding callNumber
+  no-kind out = rw (call-laws .no-kind kind _ _ _ _ _ out)
 
-unread : (page : List ℕ) (r : Record) (n : ℕ) → within 1 15 (r .kind) ≡ true → readOf page .answer ≡ Refused n → callNumberOf page r ≡ n
-unfolding callNumber
-unread page r n kind e = go (parsedIn r) refl
-  where
-    go : (p : Parsed) → parsedIn r ≡ p → performedNumber page p ≡ n
-    go (Ok c) names = rw e
-    go NoKind names = absurd (call-laws .some-kind (r .kind) (r .n1) (r .n2) (r .n3) (r .n4) (r .n5) kind names)
+  unread : (n : ℕ) → within 1 15 kind ≡ true → readOf page .answer ≡ Refused n → callNumber page kind n1 n2 n3 n4 n5 ≡ n
+  unfolding callNumber
+  unread n in-kinds e = go _ refl
+    where
+      go : (p : Parsed) → callOf kind n1 n2 n3 n4 n5 ≡ p → performedNumber page p ≡ n
+      go (Ok c) names = rw e
+      go NoKind names = absurd (call-laws .some-kind kind n1 n2 n3 n4 n5 in-kinds names)
 
 -- ---- a call on a page that is read
 
@@ -261,8 +262,8 @@ unfolding callsIn
 laws =
     record {
       fresh-answer = λ page f range. kept-answer (freshOf f) page (fresh-sound f range);
-      call-no-kind = no-kind;
-      call-unread = unread;
+      call-no-kind = λ page r. no-kind page (r .kind) (r .n1) (r .n2) (r .n3) (r .n4) (r .n5);
+      call-unread = λ page r. unread page (r .kind) (r .n1) (r .n2) (r .n3) (r .n4) (r .n5);
       call-answer = λ page r bytes e i. answer-on (from-page page bytes e) r i;
       call-page = λ page r bytes e i. page-on (from-page page bytes e) r i;
       fresh-refused = λ page f. kept-same (freshOf f) page;

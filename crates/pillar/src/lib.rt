@@ -5,6 +5,7 @@
 ghost use mathlib.Core.Path.{_≡_};
 ghost use Rattle.replay.specs.Replay.{replayAnswer, replayed};
 ghost use Rattle.pillar.specs.Interface.{keptNumber, keptPage, freshNumber, freshPage, callNumber, callPage, replayNumber, checkNumber};
+ghost use Rattle.pillar.specs.Laws.{Laws};
 use calls::Answer;
 use calls::Parsed;
 use meter::Meter;
@@ -64,6 +65,7 @@ pub extern "C" fn pillar_call(
     n5: u32,
 ) -> u32
     ensures { λ r. ⌜ (r ≡ callNumber (now (page .entry)) kind n1 n2 n3 n4 n5) × (now (page .exit) ≡ callPage (now (page .entry)) kind n1 n2 n3 n4 n5) ⌝ }
+    ensures laws { λ _. ⌜ Laws ⌝ }
 {
     let parsed = calls::read_kind(kind, n1, n2, n3, n4, n5);
     let Parsed::Ok(call) = parsed else {

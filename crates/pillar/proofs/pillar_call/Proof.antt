@@ -2,6 +2,7 @@
 use borrow.Author.Needs.{needs}
 use Rattle.pillar.specs.Interface.{callNumber, callPage}
 use Rattle.pillar.proofs.Kept.{call-no-kind, call-refused, call-kept}
+use Rattle.pillar.proofs.Laws.{laws}
 use Rattle.pillar.proofs.pillar_call.Statement.{statement}
 use Rattle.pillar.proofs.pillar_call.Tie as tie
 
@@ -20,7 +21,7 @@ reading c = c .before .before .before
 
 returns : tie.Need-returns
 unfolding callNumber callPage
-returns c = rw (← c .before .before .read-kind .ensures .0) (call-no-kind _ _ (c .enum-told .given .1))
+returns c = (rw (← c .before .before .read-kind .ensures .0) (call-no-kind _ _ (c .enum-told .given .1)), laws)
 
 read-page-requires : tie.Need-read-page-requires
 read-page-requires c κs = search needs
@@ -38,8 +39,11 @@ returns-2 : tie.Need-returns-2
 unfolding callNumber callPage
 returns-2 c =
     let read = c .before .before .before in
-    let parsed = reading read in
-    rw (← parsed .before .before .read-kind .ensures .0) (call-refused _ _ _ (parsed .parsed .given .1) _ (read .read-page .ensures .0) _ (c .before .answer .given .1))
+    let parsed = reading read in (
+      rw (← parsed .before .before .read-kind .ensures .0)
+          (call-refused _ _ _ (parsed .parsed .given .1) _ (read .read-page .ensures .0) _ (c .before .answer .given .1)),
+      laws,
+    )
 
 enum-told-2 : tie.Need-enum-told-2
 enum-told-2 c = search needs
@@ -58,9 +62,12 @@ unfolding callNumber callPage
 returns-3 c =
     let apply = c .before .before .before .before in
     let read = apply .before .before .before in
-    let parsed = reading read in
-    rw (← parsed .before .before .read-kind .ensures .0)
-    (call-kept _ _ _ (parsed .parsed .given .1) _ (read .read-page .ensures .0) _ _ _ (apply .before .enum-told2 .given .1) (apply .apply .ensures .0) (c .before .before .keep .ensures))
+    let parsed = reading read in (
+      rw (← parsed .before .before .read-kind .ensures .0)
+          (call-kept _ _ _ (parsed .parsed .given .1) _ (read .read-page .ensures .0) _ _ _
+          (apply .before .enum-told2 .given .1) (apply .apply .ensures .0) (c .before .before .keep .ensures)),
+      laws,
+    )
 
 pub pillar-call-spec : {M : Type 1} → statement M
 pillar-call-spec =
