@@ -1,1 +1,4 @@
 pub mod Lines
+pub mod Listing
+pub mod Laws
+pub mod Examples

@@ -1,12 +1,22 @@
 -- The lines of some records, one behind the other: 'Per record a line: position from 1, refusal or 0, switch, openings.'
+use mathlib.Core.Path.{_≡_}
 use mathlib.Core.List.{List, [], _∷_, _++_}
 use Prim.Native.Nat.{ℕ, _+_}
-use lib.ListN.{drop}
+use lib.ListN.{length, drop}
+use lib.Seq.{sets}
 use Rattle.meter.specs.declared.Meter.{Meter}
 use Rattle.replay.specs.declared.ListingLine.{ListingLine}
 use Rattle.replay.specs.declared.Record.{Record}
 use Rattle.replay.specs.Replay.{recordsFrom, nextOf}
 use Rattle.replay.specs.Listing.{lineOf}
+
+-- bytes put behind the first `len` of a text, which is then `len′` long
+abbrev pub PutBehind : List ℕ → ℕ → List ℕ → ℕ → List ℕ → Type 0
+PutBehind text len xs len′ text′ = (len′ ≡ len + length xs) × (text′ ≡ sets text len xs)
+
+-- and at its start
+abbrev pub PutAtStart : List ℕ → List ℕ → ℕ → List ℕ → Type 0
+PutAtStart text xs len′ text′ = (len′ ≡ length xs) × (text′ ≡ sets text 0 xs)
 
 -- the bytes of a line
 abbrev pub shown : ListingLine → List ℕ

@@ -1,102 +1,98 @@
 // The listing of the bench program: records are read, and a line for each is written. What a record
 // does to the meter, and what its line says, is `replay`'s.
+//
+// Proved are the texts, each by the bytes it is made of, and that together they are the listing of the
+// whole input. No contract of reading or writing says which bytes a stream has: it is left to
+// comparison that the blocks are the input's bytes, and that each text is written, once and in order.
 ghost use Prim.Native.Nat.{_+_, _≤_};
+ghost use Rattle.listing.specs.Laws.{BlockRead, BlocksRead, InputRead, Laws};
+ghost use Rattle.listing.specs.Examples.{Examples};
 
 mod lines;
+mod reading;
 
-use calls::Answer;
 use lines::LINE_LEN;
 use meter::Meter;
-use meter::Outcome;
 use replay::RECORD_LEN;
 
 // The input is read in blocks of whole records, so that a record is cut only where the input ends.
-const BLOCK_RECORDS: usize = 195;
+pub(crate) const BLOCK_RECORDS: usize = 195;
 
-const BLOCK_LEN: usize = BLOCK_RECORDS * RECORD_LEN;
+pub(crate) const BLOCK_LEN: usize = BLOCK_RECORDS * RECORD_LEN;
 
-// Room for the lines of a block.
-const TEXT_LEN: usize = BLOCK_RECORDS * LINE_LEN;
+// Room for the lines of a block, and `short`.
+const TEXT_LEN: usize = BLOCK_RECORDS * LINE_LEN + 6;
 
 // In a block that starts before this position, no position wraps.
 const LAST_POSITION: u64 = u64::MAX - 195;
 
-// The meter after a block, and whether another may follow: this one was full, and its lines are
-// written.
-struct Printed {
-    meter: Meter,
-    goes_on: bool,
+// How far a listing is: the meter, the position of the next record, and whether a block is to be read.
+pub struct Progress {
+    pub meter: Meter,
+    pub position: u64,
+    pub more: bool,
 }
 
-// Reads a block and writes its lines, and `short` where its last record is cut.
-fn print_block(input: i32, output: i32, position: u64, before: Meter) -> Printed
-    requires { ⌜ position + 195 ≤ 18446744073709551615 ⌝ }
+// How far a listing came, whether the input could be read so far, and whether all of the text was
+// written.
+pub struct Printed {
+    pub progress: Progress,
+    pub read: bool,
+    pub written: bool,
+}
+
+// Reads a block and writes its text.
+fn print_block(input: i32, output: i32, before: Progress) -> Printed
+    requires { ⌜ before .position + 195 ≤ 18446744073709551615 ⌝ }
+    ensures { λ r. ⌜ BlockRead before (r .progress) ⌝ }
 {
     let mut block = [0u8; BLOCK_LEN];
     let mut text = [0u8; TEXT_LEN];
-    let got = io::read_full(input, &mut block);
-    let listed = lines::put_lines(&mut text, &block[..got], position, before);
-    let meter = listed.meter;
-    let len = listed.len;
-    if !io::write_all(output, &text[..len]) {
-        return Printed {
-            meter,
-            goes_on: false,
-        };
-    }
-    if got % RECORD_LEN != 0 {
-        io::write_all(output, b"short\n");
-    }
+    let got = reading::read_part(input, &mut block);
+    let count = got.count;
+    let part = lines::put_block(&mut text, &block[..count], before);
+    let progress = part.progress;
+    let len = part.len;
+    let written = io::write_all(output, &text[..len]);
     Printed {
-        meter,
-        goes_on: got == BLOCK_LEN,
+        progress,
+        read: !got.failed,
+        written,
     }
 }
 
-// The lines of the records after the first. A proved loop has to end, and nothing says that the
-// input does: this one ends before the position wraps.
-fn print_calls(input: i32, output: i32, fresh: Meter) {
-    let mut meter = fresh;
-    let mut goes_on = true;
-    let mut position = 2;
-    while position < LAST_POSITION && goes_on {
-        let printed = print_block(input, output, position, meter);
-        meter = printed.meter;
-        goes_on = printed.goes_on;
-        position += BLOCK_RECORDS as u64;
+// Reads and writes block by block, behind what is printed. A proved loop has to end, and nothing says
+// that the input does: this one ends before the position wraps.
+fn print_blocks(input: i32, output: i32, first: Printed) -> Printed
+    ensures { λ r. ⌜ BlocksRead (first .progress) r ⌝ }
+{
+    let mut printed = first;
+    while printed.progress.position < LAST_POSITION && printed.progress.more && printed.written {
+        let before = printed.progress;
+        printed = print_block(input, output, before);
     }
-}
-
-// The line of the first record. A refused fresh ends the listing.
-fn print_fresh(input: i32, output: i32, fresh: Outcome) {
-    let mut text = [0u8; LINE_LEN];
-    let len = lines::put_line(&mut text, 0, replay::line_of(1, fresh));
-    if !io::write_all(output, &text[..len]) {
-        return;
-    }
-    let answer = fresh.answer;
-    let meter = fresh.meter;
-    if let Answer::Accepted = answer {
-        print_calls(input, output, meter);
-    }
+    printed
 }
 
 // Reads records from one descriptor to its end, and writes their listing to the other. It stops where
-// a write fails.
-pub fn print_listing(input: i32, output: i32) {
+// a read or a write fails.
+pub fn print_listing(input: i32, output: i32) -> Printed
+    ensures { λ r. ⌜ InputRead r ⌝ }
+    ensures laws { λ _. ⌜ Laws ⌝ }
+    ensures examples { λ _. ⌜ Examples ⌝ }
+{
     let mut bytes = [0u8; RECORD_LEN];
-    let got = io::read_full(input, &mut bytes);
-    if got == 0 {
-        return;
-    }
-    if got < RECORD_LEN {
-        io::write_all(output, b"short\n");
-        return;
-    }
-    let first = replay::record_at(&bytes, 0);
-    if first.kind != 0 {
-        io::write_all(output, b"bad\n");
-        return;
-    }
-    print_fresh(input, output, replay::start(first));
+    let mut text = [0u8; LINE_LEN];
+    let got = reading::read_part(input, &mut bytes);
+    let count = got.count;
+    let part = lines::put_first(&mut text, &bytes[..count]);
+    let progress = part.progress;
+    let len = part.len;
+    let written = io::write_all(output, &text[..len]);
+    let first = Printed {
+        progress,
+        read: !got.failed,
+        written,
+    };
+    print_blocks(input, output, first)
 }

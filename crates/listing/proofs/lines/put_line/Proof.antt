@@ -6,7 +6,6 @@ use native.Mathlib.Omega.{arith}
 use borrow.Author.Needs.{needs}
 use lib.ListN.{length, drop, length-drop}
 use lib.Seq.{sets}
-use Rattle.io.proofs.Counting.{counts}
 use Rattle.listing.specs.Lines.{shown}
 use Rattle.listing.proofs.Stores.{storing-one, stored-all}
 use Rattle.listing.proofs.lines.put_line.Statement.{statement}
@@ -67,7 +66,7 @@ returns c =
     let none = length-drop (l .from) (line .bytes) in
     let some = length-drop (line .start) (line .bytes) in (
       (omega (arith, none), sym (stored-all (l .text) (l .to) (line .bytes) (l .from) past) ∙ l .inv .0),
-      (omega (arith, none, some), counts _ _ (omega (arith, none, some))),
+      omega (arith, none, some),
     )
 
 pub put-line-spec : {M : Type 1} → statement M

@@ -4,7 +4,6 @@ use Prim.Native.Nat.{_/_, _-_, _≤_}
 use native.Mathlib.Omega.{arith}
 use borrow.Author.Needs.{needs}
 use lib.ListN.{length}
-use Rattle.io.proofs.Counting.{counts}
 use Rattle.replay.specs.Replay.{recordsFrom}
 use Rattle.replay.proofs.Runs.{records-next, records-end}
 use Rattle.listing.proofs.Lists.{Listing, none-listed, one-listed, all-listed}
@@ -62,7 +61,7 @@ loop-again c =
     let left = rw (rest, ← (n .before .record-at .ensures)) at (l .inv .1) in (
       search needs,
       one-listed (a .text .now) (a .position) (a .before) (recordsFrom 0 s) left (n .next .ensures) (p .before .line-of .ensures) (p .put-line .ensures .0)
-          (p .put-line .ensures .1 .0),
+          (p .put-line .ensures .1),
     )
 
 same-length : tie.Need-same-length Inv-loop μ-loop
@@ -75,7 +74,7 @@ returns c =
     let s = a .block .now in
     let none = records-end s (l .i) (search needs) in
     let listed = all-listed (a .text .now) (a .position) (a .before) (recordsFrom 0 s) (rw none at (l .inv .1)) in
-    (listed .0, (listed .1, counts _ _ (omega (arith, l .inv .1 .size, l .inv .1 .room))))
+    (listed .0, (listed .1, omega (arith, l .inv .1 .room)))
 
 pub put-lines-spec : {M : Type 1} → statement M
 put-lines-spec =
