@@ -5,6 +5,7 @@ ghost use mathlib.Core.Bool.{cond};
 ghost use lib.Dec.{eqb};
 ghost use Rattle.control.specs.Table.{switchTable};
 ghost use Rattle.control.specs.Control.{decision, modeDecision, movedTo, inMode, soundControl};
+ghost use Rattle.control.specs.NearMisses.{NearMisses};
 
 pub enum Request {
     RemoteDisconnect,
@@ -101,6 +102,7 @@ impl Control {
     // The ranges of mode and state, and mode 0 only with the switch connected.
     pub fn sound(self) -> bool
         ensures { λ r. ⌜ r ≡ soundControl self ⌝ }
+        ensures near_misses { λ _. ⌜ NearMisses ⌝ }
     {
         ((self.mode <= 6) & (self.state <= 2)) & ((self.mode != 0) | (self.state == 1))
     }

@@ -2,6 +2,7 @@
 ghost use mathlib.Core.Path.{_≡_};
 ghost use Rattle.limiter.specs.Limiter.{isOver, isThreshold, isDuration, awaited, counts, withRun, watched, sampledPower, withSettings, soundLimiter};
 ghost use Rattle.limiter.specs.Laws.{Laws};
+ghost use Rattle.limiter.specs.NearMisses.{NearMisses};
 
 pub struct Limiter {
     pub threshold: i32,
@@ -58,6 +59,7 @@ impl Limiter {
     // The ranges of the settings, and Run below the duration that is awaited.
     pub fn sound(self) -> bool
         ensures { λ r. ⌜ r ≡ soundLimiter self ⌝ }
+        ensures near_misses { λ _. ⌜ NearMisses ⌝ }
     {
         is_threshold(self.threshold)
             & is_duration(self.over)

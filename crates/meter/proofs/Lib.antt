@@ -16,3 +16,4 @@ pub mod Steps
 pub mod Tail
 pub mod Accepting
 pub mod Examples
+pub mod NearMisses

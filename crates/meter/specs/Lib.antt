@@ -7,3 +7,4 @@ pub mod Fresh
 pub mod Holding
 pub mod Examples
 pub mod Laws
+pub mod NearMisses

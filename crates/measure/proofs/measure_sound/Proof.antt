@@ -50,7 +50,7 @@ loop-again c =
     let m = c .before .before .before .before .before .read-page .result .meter in (
       search needs,
       next-passing (l .round) (l .sound) (c .one-if .result) (λ i. soundMeter builtIn (inRound m i)) (c .before .sound .result) (l .inv .1) (c .one-if .ensures)
-          (c .before .sound .ensures ∙ ap (soundMeter builtIn) (same-round (l .meter) m (l .round) (l .inv .2))),
+          (c .before .sound .ensures .0 ∙ ap (soundMeter builtIn) (same-round (l .meter) m (l .round) (l .inv .2))),
       l .inv .2,
     )
 
