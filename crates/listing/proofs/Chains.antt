@@ -5,7 +5,7 @@ use mathlib.Core.List.{List, [], _∷_, _++_}
 use Prim.Native.Nat.{ℕ, _≤_}
 use lib.ListN.{length}
 use Rattle.listing.specs.declared.Progress.{Progress}
-use Rattle.listing.specs.declared.Printed.{Printed}
+use Rattle.listing.specs.declared.ListingEnd.{ListingEnd}
 use Rattle.listing.specs.Listing.{afterFirst, afterBlock, afterBlocks, Blocks}
 use Rattle.listing.specs.Laws.{BlockRead, BlocksRead, InputRead}
 
@@ -40,5 +40,5 @@ led-on before led more read =
     )
 
 -- the first bytes, and what follows them
-pub input-read : (first : List ℕ) → length first ≤ 21 → {p : Progress} → p ≡ afterFirst first → {r : Printed} → BlocksRead p r → InputRead r
+pub input-read : (first : List ℕ) → length first ≤ 21 → {p : Progress} → p ≡ afterFirst first → {r : ListingEnd} → BlocksRead p r → InputRead r
 input-read first fits e {r} rest = record { first = first; fits = fits; rest = subst (λ (p : Progress). BlocksRead p r) e rest }

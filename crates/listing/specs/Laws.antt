@@ -6,7 +6,7 @@ use Prim.Native.Nat.{ℕ, _<_, _≤_}
 use lib.ListN.{length, take, drop}
 use Rattle.replay.specs.Replay.{recordLength}
 use Rattle.listing.specs.declared.Progress.{Progress}
-use Rattle.listing.specs.declared.Printed.{Printed}
+use Rattle.listing.specs.declared.ListingEnd.{ListingEnd}
 use Rattle.listing.specs.Listing.{listingOf, blockLength, firstText, afterFirst, afterBlock, blocksText, afterBlocks, Blocks}
 
 -- ---- an input as the program reads it
@@ -38,14 +38,14 @@ pub record BlockRead (before after : Progress) : Type 0 where
   pub progress : after ≡ afterBlock before block
 
 -- blocks were read, one after the other; where all was written, until the listing ends or the positions do
-pub record BlocksRead (before : Progress) (r : Printed) : Type 0 where
+pub record BlocksRead (before : Progress) (r : ListingEnd) : Type 0 where
   pub blocks : List (List ℕ)
   pub followed : Blocks before blocks
   pub progress : r .progress ≡ afterBlocks before blocks
   pub ended : r .written ≡ true → r .progress .position < 18446744073709551420 → r .progress .more ≡ false
 
 -- the first bytes were read, and blocks behind them
-pub record InputRead (r : Printed) : Type 0 where
+pub record InputRead (r : ListingEnd) : Type 0 where
   pub first : List ℕ
   pub fits : length first ≤ recordLength
   pub rest : BlocksRead (afterFirst first) r

@@ -43,10 +43,11 @@ listingOf s =
 
 -- ---- its parts
 
--- the records of a block, and its bytes
+-- the records of a block
 abbrev pub blockRecords : ℕ
 blockRecords = 195
 
+-- and its bytes
 abbrev pub blockLength : ℕ
 blockLength = blockRecords * recordLength
 

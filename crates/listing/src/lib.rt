@@ -35,14 +35,14 @@ pub struct Progress {
 
 // How far a listing came, whether the input could be read so far, and whether all of the text was
 // written.
-pub struct Printed {
+pub struct ListingEnd {
     pub progress: Progress,
     pub read: bool,
     pub written: bool,
 }
 
 // Reads a block and writes its text.
-fn print_block(input: i32, output: i32, before: Progress) -> Printed
+fn print_block(input: i32, output: i32, before: Progress) -> ListingEnd
     requires { ⌜ before .position + 195 ≤ 18446744073709551615 ⌝ }
     ensures { λ r. ⌜ BlockRead before (r .progress) ⌝ }
 {
@@ -54,7 +54,7 @@ fn print_block(input: i32, output: i32, before: Progress) -> Printed
     let progress = part.progress;
     let len = part.len;
     let written = io::write_all(output, &text[..len]);
-    Printed {
+    ListingEnd {
         progress,
         read: !got.failed,
         written,
@@ -63,7 +63,7 @@ fn print_block(input: i32, output: i32, before: Progress) -> Printed
 
 // Reads and writes block by block, behind what is printed. A proved loop has to end, and nothing says
 // that the input does: this one ends before the position wraps.
-fn print_blocks(input: i32, output: i32, first: Printed) -> Printed
+fn print_blocks(input: i32, output: i32, first: ListingEnd) -> ListingEnd
     ensures { λ r. ⌜ BlocksRead (first .progress) r ⌝ }
 {
     let mut printed = first;
@@ -76,7 +76,7 @@ fn print_blocks(input: i32, output: i32, first: Printed) -> Printed
 
 // Reads records from one descriptor to its end, and writes their listing to the other. It stops where
 // a read or a write fails.
-pub fn print_listing(input: i32, output: i32) -> Printed
+pub fn print_listing(input: i32, output: i32) -> ListingEnd
     ensures { λ r. ⌜ InputRead r ⌝ }
     ensures laws { λ _. ⌜ Laws ⌝ }
     ensures examples { λ _. ⌜ Examples ⌝ }
@@ -89,7 +89,7 @@ pub fn print_listing(input: i32, output: i32) -> Printed
     let progress = part.progress;
     let len = part.len;
     let written = io::write_all(output, &text[..len]);
-    let first = Printed {
+    let first = ListingEnd {
         progress,
         read: !got.failed,
         written,

@@ -17,13 +17,13 @@ use replay::RECORD_LEN;
 pub(crate) const LINE_LEN: usize = 40;
 
 // The meter after some records, and the length of the text that their lines are.
-struct Listed {
+struct PutLines {
     meter: Meter,
     len: usize,
 }
 
 // The length of the text of a part of the input, and how far the listing is after it.
-pub(crate) struct Part {
+pub(crate) struct PutText {
     pub len: usize,
     pub progress: Progress,
 }
@@ -71,7 +71,7 @@ fn put_cut(text: &mut [u8], len: usize, count: usize) -> usize
 }
 
 // Puts the lines of a block's whole records at the start of a text, the first with this position.
-fn put_lines(text: &mut [u8], block: &[u8], position: u64, before: Meter) -> Listed
+fn put_lines(text: &mut [u8], block: &[u8], position: u64, before: Meter) -> PutLines
     requires { ⌜ (7800 ≤ length (now text)) × (length (now block) ≤ 4095) × (position + 195 ≤ 18446744073709551615) ⌝ }
     ensures { λ r. ⌜ r .meter ≡ meterAfter before (recordsFrom 0 (now (block .entry))) ⌝ }
     ensures { λ r. ⌜ PutAtStart (now (text .entry)) (linesIn position before (now (block .entry))) (r .len) (now (text .exit)) ⌝ }
@@ -87,11 +87,11 @@ fn put_lines(text: &mut [u8], block: &[u8], position: u64, before: Meter) -> Lis
         meter = outcome.meter;
         i += 1;
     }
-    Listed { meter, len }
+    PutLines { meter, len }
 }
 
 // Puts the text of the first bytes of an input, a record's length if there are so many.
-pub(crate) fn put_first(text: &mut [u8], bytes: &[u8]) -> Part
+pub(crate) fn put_first(text: &mut [u8], bytes: &[u8]) -> PutText
     requires { ⌜ 40 ≤ length (now text) ⌝ }
     ensures { λ r. ⌜ r .progress ≡ afterFirst (now (bytes .entry)) ⌝ }
     ensures { λ r. ⌜ PutAtStart (now (text .entry)) (firstText (now (bytes .entry))) (r .len) (now (text .exit)) ⌝ }
@@ -110,18 +110,18 @@ pub(crate) fn put_first(text: &mut [u8], bytes: &[u8]) -> Part
     };
     if bytes.len() < RECORD_LEN {
         let len = put_cut(text, 0, bytes.len());
-        return Part { len, progress };
+        return PutText { len, progress };
     }
     if first.kind != 0 {
         let len = put_bytes(text, 0, b"bad\n");
-        return Part { len, progress };
+        return PutText { len, progress };
     }
     let len = put_line(text, 0, replay::line_of(1, fresh));
-    Part { len, progress }
+    PutText { len, progress }
 }
 
 // Puts the text of a block: the lines of its whole records, and `short` if its last record is cut.
-pub(crate) fn put_block(text: &mut [u8], block: &[u8], before: Progress) -> Part
+pub(crate) fn put_block(text: &mut [u8], block: &[u8], before: Progress) -> PutText
     requires { ⌜ (7806 ≤ length (now text)) × (length (now block) ≤ 4095) × (before .position + 195 ≤ 18446744073709551615) ⌝ }
     ensures { λ r. ⌜ r .progress ≡ afterBlock before (now (block .entry)) ⌝ }
     ensures { λ r. ⌜ PutAtStart (now (text .entry)) (blockText before (now (block .entry))) (r .len) (now (text .exit)) ⌝ }
@@ -137,5 +137,5 @@ pub(crate) fn put_block(text: &mut [u8], block: &[u8], before: Progress) -> Part
         position,
         more,
     };
-    Part { len, progress }
+    PutText { len, progress }
 }

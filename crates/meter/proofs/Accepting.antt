@@ -14,8 +14,8 @@ use Rattle.calls.specs.declared.Answer.the-variants.{Accepted, Refused}
 use Rattle.history.specs.Effects.{Fresh}
 use Rattle.meter.specs.declared.Outcome.{Outcome}
 use Rattle.meter.specs.State.{recordOf}
-use Rattle.meter.specs.Fresh.{freshState, Settings, SettingsInRange, leastSettings, refusedOutcome, settingsBy, freshOf, FreshLaws}
-use Rattle.meter.specs.Settings.{freshAnswer}
+use Rattle.meter.specs.Fresh.{freshState, leastSettings, refusedOutcome, settingsBy, freshOf, FreshLaws}
+use Rattle.meter.specs.Settings.{freshAnswer, Settings, SettingsInRange}
 use Rattle.meter.proofs.Answers.{either}
 
 -- a fact of what fresh makes of settings, from a proof for each of its cases

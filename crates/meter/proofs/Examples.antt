@@ -12,8 +12,8 @@ use Rattle.logs.specs.Arrays.{ownCodes, zeroPast, soundLog, soundArrays}
 use Rattle.logs.specs.Layout.{padded, flat, laid, listsOf, soundLogs}
 use Rattle.meter.specs.Sound.{soundScalars, soundMeter}
 use Rattle.meter.specs.Machine.{requestResult, sampleResult, modeResult, limiterResult, eventResult, scriptResult, applied, recordAfter}
-use Rattle.meter.specs.Examples.{printedFrom, Examples}
+use Rattle.meter.specs.Examples.{lineNumbersFrom, Examples}
 
 pub examples : Examples
-unfolding printedFrom recordAfter applied soundMeter soundScalars soundControl soundLimiter soundLogs soundArrays soundLog ownCodes zeroPast padded flat laid listsOf changed newest among every below builtIn lookup besides mayHold switchTable decision modeDecision watched requestResult sampleResult modeResult limiterResult eventResult scriptResult
+unfolding lineNumbersFrom recordAfter applied soundMeter soundScalars soundControl soundLimiter soundLogs soundArrays soundLog ownCodes zeroPast padded flat laid listsOf changed newest among every below builtIn lookup besides mayHold switchTable decision modeDecision watched requestResult sampleResult modeResult limiterResult eventResult scriptResult
 examples = record { lines = refl; log = refl; power = refl; taken = refl; refused = refl; full = refl; dropped = refl }

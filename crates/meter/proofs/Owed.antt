@@ -16,7 +16,7 @@ use Rattle.history.specs.Last.{History, last, samplesSince, modeOf}
 use Rattle.history.specs.Logs.{when, moves, owedBy, clearsLog}
 use Rattle.meter.specs.declared.step.Scalars.{Scalars}
 use Rattle.meter.specs.Machine.{owing}
-use Rattle.meter.specs.Fresh.{Settings}
+use Rattle.meter.specs.Settings.{Settings}
 use Rattle.meter.proofs.Effects.{effectResult, Proper, AllProper, heldScalars}
 use Rattle.meter.proofs.Clock.{clock-part}
 use Rattle.meter.proofs.Switch.{requested-result, mode-result, sampled-result}

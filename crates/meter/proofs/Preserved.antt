@@ -43,7 +43,8 @@ use Rattle.meter.specs.declared.step.Scalars.{Scalars}
 use Rattle.meter.specs.State.{State, stateOf, scalarsOf, recordOf, withControl}
 use Rattle.meter.specs.Sound.{soundScalars, soundMeter, soundState}
 use Rattle.meter.specs.Machine.{Change, Result, refusing, making, lineNow, moving, decided, answering, requestResult, afterSample, sampleResult, modeResult, limiterResult, occurring, eventResult, clearLogResult, scriptResult, result, valuesAfter, carriedOut, applied, recordAfter}
-use Rattle.meter.specs.Fresh.{Settings, freshState}
+use Rattle.meter.specs.Settings.{Settings}
+use Rattle.meter.specs.Fresh.{freshState}
 use Rattle.meter.proofs.Values.{laid-sized, state-sound, scalars-sound, logs-sound, record-sound, record-sized}
 use Rattle.meter.proofs.Answers.{either, afterResult}
 

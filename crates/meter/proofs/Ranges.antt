@@ -11,7 +11,7 @@ use Rattle.base.specs.Tests.{within}
 use Rattle.calls.specs.Calls.{Word}
 use Rattle.history.specs.Effects.{Fresh, WhichRegister, alarms, errors, Effect, sampled, requested, modeSet, limitsSet, clockSet, occurred, filterSet, bitsCleared, logCleared}
 use Rattle.history.specs.Last.{History, last, otherwise, modeIn, modeOf, Limits, limits, limitsIn, limitsOf, filterIn, filterOf}
-use Rattle.meter.specs.Fresh.{Settings}
+use Rattle.meter.specs.Settings.{Settings}
 use Rattle.meter.proofs.Effects.{Proper, AllProper, none as noCall, more}
 
 module _ {A : Type 0} (P : A → Type 0) where

@@ -25,7 +25,8 @@ use Rattle.meter.specs.declared.Outcome.{Outcome}
 use Rattle.meter.specs.State.{State, recordOf}
 use Rattle.meter.specs.Sound.{soundState}
 use Rattle.meter.specs.Machine.{valuesAfter, result, recordAfter}
-use Rattle.meter.specs.Fresh.{Settings, freshState}
+use Rattle.meter.specs.Settings.{Settings}
+use Rattle.meter.specs.Fresh.{freshState}
 use Rattle.meter.specs.Holding.{holding}
 use Rattle.meter.proofs.Effects.{effectResult, readResult, Proper, AllProper, none, more, heldScalars, nextOpenings}
 use Rattle.meter.proofs.Answers.{by-reading, afterResult, applied-state, proper}

@@ -16,7 +16,7 @@ use Rattle.limiter.specs.Limiter.{watching, watched, sampledPower as sampledBy,
 use Rattle.history.specs.Effects.{Fresh, sampled, requested, modeSet, limitsSet, clockSet, occurred, filterSet, bitsCleared, logCleared}
 use Rattle.history.specs.Last.{History, Limits, last, limitsOf}
 use Rattle.history.specs.Limiter.{Observation, judged, observations, durationOf, duration, sinceSetting, allAre, exceeded, exceededOf, trailing}
-use Rattle.meter.specs.Fresh.{Settings}
+use Rattle.meter.specs.Settings.{Settings}
 use Rattle.meter.proofs.Ranges.{DurationsInRange, durations-range}
 use Rattle.meter.proofs.Effects.{AllProper, heldLimiter}
 

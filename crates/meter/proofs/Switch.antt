@@ -33,7 +33,7 @@ use Rattle.history.specs.Account.{opens}
 use Rattle.meter.specs.declared.step.Scalars.{Scalars}
 use Rattle.meter.specs.State.{withControl, withLimiter, withClock}
 use Rattle.meter.specs.Machine.{Change, owing, lineNow, moving, decided, afterSample, sampleResult}
-use Rattle.meter.specs.Fresh.{Settings}
+use Rattle.meter.specs.Settings.{Settings}
 use Rattle.meter.proofs.Ranges.{mode-range}
 use Rattle.meter.proofs.Effects.{requestOf, effectResult, Proper, AllProper, heldControl, heldLimiter, heldScalars, nextOpenings}
 use Rattle.meter.proofs.Stretches.{changes, sampled-watched, limiter-limited}

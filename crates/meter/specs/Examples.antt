@@ -22,36 +22,36 @@ use Rattle.meter.specs.Machine.{applied, recordAfter}
 use Rattle.meter.specs.Fresh.{freshState}
 
 -- 'Per record a line: position from 1, refusal or 0, switch, openings'
-pub record PrintedLine : Type 0 where
+pub record LineNumbers : Type 0 where
   pub position : ℕ
   pub refusal : ℕ
   pub switch : ℕ
   pub openings : ℕ
 
 -- a line of these four numbers
-abbrev pub printed : ℕ → ℕ → ℕ → ℕ → PrintedLine
-printed k n s o = record { position = k; refusal = n; switch = s; openings = o }
+abbrev pub lineNumbers : ℕ → ℕ → ℕ → ℕ → LineNumbers
+lineNumbers k n s o = record { position = k; refusal = n; switch = s; openings = o }
 
 -- the line of the record m at position k, with the refusal n
-abbrev pub printedOf : ℕ → ℕ → Meter → PrintedLine
-printedOf k n m = printed k n (m .control .state) (m .control .openings)
+abbrev pub lineNumbersOf : ℕ → ℕ → Meter → LineNumbers
+lineNumbersOf k n m = lineNumbers k n (m .control .state) (m .control .openings)
 
 -- the lines of calls from position k on: each call gets the record that the one before handed back
-unfoldable pub printedFrom : ℕ → Meter → List Call → List PrintedLine
-printedFrom k m [] = []
-printedFrom k m (c ∷ cs) =
+unfoldable pub lineNumbersFrom : ℕ → Meter → List Call → List LineNumbers
+lineNumbersFrom k m [] = []
+lineNumbersFrom k m (c ∷ cs) =
     let o = applied builtIn m c in
-    printedOf k (answerNumber (o .answer)) (o .meter) ∷ printedFrom (suc k) (o .meter) cs
+    lineNumbersOf k (answerNumber (o .answer)) (o .meter) ∷ lineNumbersFrom (suc k) (o .meter) cs
 
 -- 'The first has kind 0 and is fresh'
-abbrev pub printedListing : Fresh → List Call → List PrintedLine
-printedListing f cs =
+abbrev pub lineNumbersOfAll : Fresh → List Call → List LineNumbers
+lineNumbersOfAll f cs =
     let m = recordOf (freshState f) in
-    printedOf 1 0 m ∷ printedFrom 2 m cs
+    lineNumbersOf 1 0 m ∷ lineNumbersFrom 2 m cs
 
 -- the printed lines at some positions
-abbrev pub printedAt : List ℕ → List PrintedLine
-printedAt ks = map (λ k. getD (printedListing exampleSettings exampleCalls) (k - 1) (printed 0 0 0 0)) ks
+abbrev pub lineNumbersAt : List ℕ → List LineNumbers
+lineNumbersAt ks = map (λ k. getD (lineNumbersOfAll exampleSettings exampleCalls) (k - 1) (lineNumbers 0 0 0 0)) ks
 
 -- log n of a record
 abbrev pub logIn : Meter → ℕ → List Line
@@ -74,8 +74,8 @@ everySecond c t (suc n) = line t c ∷ everySecond c (suc t) n
 -- the examples, one table
 pub record Examples : Type 0 where
   pub lines :
-      printedAt (3 ∷ 4 ∷ 8 ∷ 10 ∷ 12 ∷ 14 ∷ 15 ∷ [])
-      ≡ printed 3 0 1 0 ∷ printed 4 0 2 1 ∷ printed 8 0 1 1 ∷ printed 10 0 0 2 ∷ printed 12 0 2 2 ∷ printed 14 0 1 2 ∷ printed 15 2 1 2 ∷ []
+      lineNumbersAt (3 ∷ 4 ∷ 8 ∷ 10 ∷ 12 ∷ 14 ∷ 15 ∷ [])
+      ≡ lineNumbers 3 0 1 0 ∷ lineNumbers 4 0 2 1 ∷ lineNumbers 8 0 1 1 ∷ lineNumbers 10 0 0 2 ∷ lineNumbers 12 0 2 2 ∷ lineNumbers 14 0 1 2 ∷ lineNumbers 15 2 1 2 ∷ []
   -- 'Log 3 then: 65, 64, 61 at 1003; 66, 62, 59, 63 at 1006'
   pub log :
       logIn (recordAfter builtIn exampleMeter exampleCalls) 3

@@ -12,7 +12,7 @@ use Rattle.calls.specs.Calls.{Word, Signed}
 use Rattle.history.specs.Effects.{Fresh}
 use Rattle.meter.specs.declared.Outcome.{Outcome}
 use Rattle.meter.specs.State.{State, recordOf}
-use Rattle.meter.specs.Settings.{settingsOf, freshAnswer}
+use Rattle.meter.specs.Settings.{settingsOf, freshAnswer, Settings, SettingsInRange}
 
 -- 'switch 1, not Exceeded, all else zero or empty'
 abbrev pub freshState : Fresh → State
@@ -30,15 +30,6 @@ freshState f =
       logs = [] ∷ [] ∷ [] ∷ [];
     }
 
--- settings that fresh accepts: 'fresh, call 6 | 1 | mode above 6', 'fresh, call 7 | 4 | threshold negative', '5 | Over or Under out of range'; the clock is a
--- number of 32 bits
-pub record Settings (f : Fresh) : Type 0 where
-  pub mode : leb (f .mode) 6 ≡ true
-  pub threshold : isThreshold (f .threshold) ≡ true
-  pub over : isDuration (f .over) ≡ true
-  pub under : isDuration (f .under) ≡ true
-  pub clock : Word (f .clock)
-
 -- 'mode 0, threshold 0, durations 1, clock 0'
 abbrev pub leastSettings : Fresh
 leastSettings = settingsOf 0 (pos 0) 1 1 0
@@ -55,11 +46,6 @@ settingsBy (Refused n) f = leastSettings
 -- fresh: the meter of its settings, or a refusal's
 abbrev pub freshOf : Fresh → Outcome
 freshOf f = record { meter = recordOf (freshState (settingsBy (freshAnswer f) f)); answer = freshAnswer f }
-
--- the numbers that fresh judges or takes as they are, as values of their types
-pub record SettingsInRange (f : Fresh) : Type 0 where
-  pub threshold : Signed (f .threshold)
-  pub clock : Word (f .clock)
 
 -- what fresh accepts and refuses
 pub record FreshLaws : Type 0 where

@@ -17,7 +17,8 @@ use Rattle.meter.specs.State.{State, stateOf, recordOf}
 use Rattle.meter.specs.Sound.{soundMeter, soundState}
 use Rattle.meter.specs.Machine.{applied, commanded, recordAfter}
 use Rattle.meter.specs.Parts.{appliedInParts, commandedInParts}
-use Rattle.meter.specs.Fresh.{Settings, freshState}
+use Rattle.meter.specs.Settings.{Settings}
+use Rattle.meter.specs.Fresh.{freshState}
 use Rattle.meter.specs.Holding.{holding}
 
 -- the answer that the account's rule of refusals gives

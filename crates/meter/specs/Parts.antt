@@ -61,10 +61,11 @@ leftIn m (making k) =
 unfoldable pub appliedInParts : List EventRow → Meter → Call → Outcome
 appliedInParts rows m c = cond (soundMeter rows m) (leftIn m (result rows (scalarsOf m) c)) (record { meter = m; answer = Refused 12 })
 
--- a command on a record in parts
+-- what a command names, on a record in parts: 'kind | 13 | not 1–15'
 abbrev pub performedInParts : List EventRow → Meter → Parsed → Outcome
 performedInParts rows m (Ok c) = appliedInParts rows m c
 performedInParts rows m NoKind = record { meter = m; answer = Refused 13 }
 
+-- a command of a kind and five numbers on a record in parts
 unfoldable pub commandedInParts : List EventRow → Meter → ℕ → ℕ → ℕ → ℕ → ℕ → ℕ → Outcome
 commandedInParts rows m k n1 n2 n3 n4 n5 = performedInParts rows m (callOf k n1 n2 n3 n4 n5)

@@ -1,12 +1,14 @@
 -- The settings that fresh takes: 'Fresh takes mode, threshold, Over, Under, clock', and which it refuses.
-use mathlib.Core.Bool.{_&&_, cond}
+use mathlib.Core.Path.{_≡_}
+use mathlib.Core.Bool.{true, _&&_, cond}
 use Prim.Native.Nat.{ℕ}
 use lib.Dec.{leb}
 use lib.IntN.{ℤ, pos}
 use lib.Signed.{leZ}
-use Rattle.limiter.specs.Limiter.{isDuration}
+use Rattle.limiter.specs.Limiter.{isThreshold, isDuration}
 use Rattle.calls.specs.declared.Answer.{Answer}
 use Rattle.calls.specs.declared.Answer.the-variants.{Accepted, Refused}
+use Rattle.calls.specs.Calls.{Word, Signed}
 use Rattle.history.specs.Effects.{Fresh}
 
 -- 'Fresh takes mode, threshold, Over, Under, clock'
@@ -19,3 +21,17 @@ freshAnswer f =
     cond (leb (f .mode) 6)
     (cond (leZ (pos 0) (f .threshold)) (cond (isDuration (f .over) && isDuration (f .under)) Accepted (Refused 5)) (Refused 4))
     (Refused 1)
+
+-- settings that fresh accepts: 'fresh, call 6 | 1 | mode above 6', 'fresh, call 7 | 4 | threshold negative', '5 | Over or Under out of range'; the clock is a
+-- number of 32 bits
+pub record Settings (f : Fresh) : Type 0 where
+  pub mode : leb (f .mode) 6 ≡ true
+  pub threshold : isThreshold (f .threshold) ≡ true
+  pub over : isDuration (f .over) ≡ true
+  pub under : isDuration (f .under) ≡ true
+  pub clock : Word (f .clock)
+
+-- the numbers that fresh judges or takes as they are, as values of their types
+pub record SettingsInRange (f : Fresh) : Type 0 where
+  pub threshold : Signed (f .threshold)
+  pub clock : Word (f .clock)

@@ -21,7 +21,7 @@ use Rattle.history.specs.Effects.{Fresh}
 use Rattle.history.specs.Account.{Account, account}
 use Rattle.meter.specs.State.{recordOf}
 use Rattle.meter.specs.Sound.{soundState}
-use Rattle.meter.specs.Fresh.{Settings}
+use Rattle.meter.specs.Settings.{Settings}
 use Rattle.meter.specs.Holding.{holding}
 use Rattle.meter.proofs.Values.{logs-sound}
 use Rattle.meter.proofs.Simulates.{named-sound}

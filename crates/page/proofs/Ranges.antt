@@ -30,7 +30,7 @@ use Rattle.history.specs.Logs.{when, moves, requestCode, clearCode, owedBy, cle
 use Rattle.history.specs.Account.{acceptedCalls, accountAfter}
 use Rattle.meter.specs.Sound.{soundState}
 use Rattle.meter.specs.State.{State, recordOf}
-use Rattle.meter.specs.Fresh.{Settings}
+use Rattle.meter.specs.Settings.{Settings}
 use Rattle.meter.specs.Holding.{holding}
 use Rattle.meter.proofs.Effects.{Proper, AllProper, none, more}
 use Rattle.meter.proofs.Ranges.{filter-word}

@@ -15,7 +15,7 @@ use Rattle.meter.specs.declared.Meter.{Meter}
 use Rattle.meter.specs.State.{State, stateOf, recordOf}
 use Rattle.meter.specs.Sound.{soundMeter, soundState}
 use Rattle.meter.specs.Machine.{recordAfter}
-use Rattle.meter.specs.Fresh.{Settings}
+use Rattle.meter.specs.Settings.{Settings}
 use Rattle.meter.specs.Holding.{holding}
 use Rattle.meter.proofs.Accepting.{fresh-laws}
 use Rattle.meter.proofs.Laws.{built-in, turned}

@@ -12,7 +12,8 @@ use Rattle.history.specs.Effects.{Fresh}
 use Rattle.history.specs.Account.{Account, account}
 use Rattle.meter.specs.declared.Meter.{Meter}
 use Rattle.meter.specs.Machine.{recordAfter}
-use Rattle.meter.specs.Fresh.{freshOf, SettingsInRange}
+use Rattle.meter.specs.Settings.{SettingsInRange}
+use Rattle.meter.specs.Fresh.{freshOf}
 use Rattle.page.specs.Layout.{writeAnswer, written}
 use Rattle.page.specs.AccountPage.{pageLength, accountPage}
 

@@ -10,8 +10,8 @@ use Rattle.events.specs.Line.{line}
 use Rattle.calls.specs.declared.Answer.the-variants.{Accepted}
 use Rattle.history.specs.Account.{Account}
 use Rattle.history.specs.Examples.{exampleSettings, exampleCalls}
-use Rattle.meter.specs.Settings.{freshAnswer}
-use Rattle.meter.specs.Fresh.{freshOf, SettingsInRange}
+use Rattle.meter.specs.Settings.{freshAnswer, SettingsInRange}
+use Rattle.meter.specs.Fresh.{freshOf}
 use Rattle.page.specs.Layout.{size}
 use Rattle.page.specs.AccountPage.{accountPage}
 use Rattle.page.specs.Demand3.{Trace, traceAccount, Compared}

@@ -27,7 +27,8 @@ use Rattle.meter.specs.declared.Outcome.{Outcome}
 use Rattle.meter.specs.State.{recordOf}
 use Rattle.meter.specs.Sound.{soundMeter}
 use Rattle.meter.specs.Machine.{applied, performed, commanded, recordAfter}
-use Rattle.meter.specs.Fresh.{Settings, SettingsInRange, freshState, freshOf, refusedOutcome}
+use Rattle.meter.specs.Settings.{Settings, SettingsInRange}
+use Rattle.meter.specs.Fresh.{freshState, freshOf, refusedOutcome}
 use Rattle.meter.proofs.Accepting.{fresh-laws}
 use Rattle.meter.proofs.Laws.{turned}
 use Rattle.meter.proofs.Laws as meter

@@ -12,7 +12,8 @@ use Rattle.calls.specs.declared.Answer.the-variants.{Accepted, Refused}
 use Rattle.calls.specs.Calls.{answerNumber, AllInRange}
 use Rattle.history.specs.Effects.{Fresh}
 use Rattle.history.specs.Account.{account}
-use Rattle.meter.specs.Fresh.{freshOf, SettingsInRange}
+use Rattle.meter.specs.Settings.{SettingsInRange}
+use Rattle.meter.specs.Fresh.{freshOf}
 use Rattle.page.specs.Layout.{size, pageOf, readOf}
 use Rattle.page.specs.AccountPage.{accountPage}
 use Rattle.replay.specs.declared.Record.{Record}

@@ -14,7 +14,7 @@ use Rattle.calls.specs.declared.Call.the-variants.{Sample, RemoteDisconnect, Re
 use Rattle.calls.specs.declared.Parsed.{Parsed}
 use Rattle.calls.specs.declared.Parsed.the-variants.{Ok, NoKind}
 use Rattle.calls.specs.Calls.{signedOf, callOf, Word, Signed, InRange, AllInRange}
-use Rattle.meter.specs.Fresh.{SettingsInRange}
+use Rattle.meter.specs.Settings.{SettingsInRange}
 use Rattle.replay.specs.declared.Record.{Record}
 use Rattle.replay.specs.Input.{recordFormat}
 use Rattle.replay.specs.Replay.{settingsIn, parsedIn, withCall, callsIn}

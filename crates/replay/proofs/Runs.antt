@@ -23,7 +23,8 @@ use Rattle.meter.specs.declared.Outcome.{Outcome}
 use Rattle.meter.specs.State.{recordOf}
 use Rattle.meter.specs.Sound.{soundMeter}
 use Rattle.meter.specs.Machine.{performed, commanded, recordAfter}
-use Rattle.meter.specs.Fresh.{Settings, freshState}
+use Rattle.meter.specs.Settings.{Settings}
+use Rattle.meter.specs.Fresh.{freshState}
 use Rattle.meter.specs.Holding.{holding}
 use Rattle.meter.proofs.Preserved.{applied-sized}
 use Rattle.meter.proofs.Accepting.{fresh-laws}
