@@ -1,5 +1,4 @@
 -- The call that a kind names is of that kind, and the kinds from 1 to 15 name one.
--- Assumes nothing.
 use mathlib.Core.Path.{_≡_, refl, ap, sym, _∙_}
 use mathlib.Core.Bool.{Bool, true, false, cond}
 use Prim.Native.Nat.{ℕ, suc, _≤_}

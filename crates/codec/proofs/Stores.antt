@@ -1,5 +1,4 @@
 -- Stores that follow each other, and loops that write or read one value more at each turn.
--- Assumes nothing.
 use mathlib.Core.Path.{_≡_, sym, ap, _∙_}
 use mathlib.Core.List.{List, [], _∷_, _++_, append-assoc, append-nil, flatMap}
 use Prim.Native.Nat.{ℕ, zero, suc, _+_, _*_, _/_, _%_, _^_, _<_, _≤_}
@@ -7,7 +6,7 @@ use native.Mathlib.Nat.{add-suc, suc-add, zero-add, add-zero, suc-mul, zero-mul}
 use native.Mathlib.Numerals.{add-one}
 use native.Mathlib.Omega.{arith}
 use lib.ListN.{set, length, getD, take, drop, length-append, length-drop}
-use lib.Seq.{sets, sets-eq, length-take-le, take-all, take-append-seam, drop-append-add, take-suc-set, drop-drop}
+use lib.Seq.{sets, sets-eq, length-take-le, take-append-seam, drop-append-add, drop-drop}
 use Rattle.codec.specs.BigEndian.{be}
 use Rattle.codec.specs.Format.{Format, encs, decs, AllHold}
 use Rattle.codec.specs.Lawful.{Lawful}
@@ -55,20 +54,6 @@ module _ {A : Type 0} (F : Format A) where
   decs-append (suc m) n s at =
       let e : at + F .width + m * F .width ≡ at + suc m * F .width = rw suc-mul (omega arith) in
       rw suc-add (ap (λ (l : List A). F .dec s at ∷ l) (decs-append m n s (at + F .width) ∙ rw e))
-
-  -- a turn of a loop that reads: j values are read, and the next is set behind them
-  pub get-more : (l : List A) (j : ℕ) (s : List ℕ) (at : ℕ) → j < length l → take j l ≡ decs F j s at
-      → take (j + 1) (set l j (F .dec s (at + j * F .width))) ≡ decs F (j + 1) s at
-  get-more l j s at lt e =
-      let x = F .dec s (at + j * F .width) in
-      ap (λ (n : ℕ). take n (set l j x)) (add-one j) ∙ take-suc-set l j x lt ∙ ap (λ (r : List A). r ++ (x ∷ [])) e ∙ sym (decs-append j 1 s at)
-
-  -- the end of such a loop: every value is read
-  pub get-all : (l : List A) (n j : ℕ) (s : List ℕ) (at : ℕ) → j ≤ n → n ≤ j → length l ≡ n → take j l ≡ decs F j s at
-      → l ≡ decs F n s at
-  get-all l n j s at a b len e =
-      let same : j ≡ n = omega arith in
-      sym (take-all j l (omega arith)) ∙ e ∙ ap (λ (k : ℕ). decs F k s at) same
 
 -- a turn of a loop that writes: j values stand, and the next is put behind them
 pub put-more : {A : Type 0} {F : Format A} → Lawful F → (l : List A) → AllHold F l → (j : ℕ) (d : A) → j < length l → (o : List ℕ) (at : ℕ)

@@ -1,5 +1,4 @@
 -- What the switch table's rows answer, in the shape of the code's `match`.
--- Assumes nothing.
 use mathlib.Core.Path.{_≡_, refl}
 use mathlib.Core.Bool.{Bool, true, false, _||_, cond, and-false}
 use mathlib.Core.List.{[], _∷_}

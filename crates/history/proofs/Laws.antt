@@ -1,5 +1,4 @@
 -- What holds of the account of every fresh meter.
--- Assumes nothing.
 use Rattle.history.specs.Limiter.{observations}
 use Rattle.history.specs.Laws.{Laws}
 use Rattle.history.proofs.Splits.{mode-split, limits-split, filter-split, clock-split, spell-split, switch-inside, switch-outside, mode-zero-decides, reconnect-decides, reconnect-outside-decides-nothing, inside-decides-nothing, stands-split, owed-split}

@@ -1,5 +1,4 @@
 -- Refused calls count for nothing: the account of a list of calls, its openings too, is that of its accepted calls.
--- Assumes nothing.
 use Prim.Native.Nat.{ℕ, suc}
 use mathlib.Core.Path.{_≡_, refl, sym, ap, _∙_}
 use mathlib.Core.Bool.{Bool, true, false, not, _&&_, cond}

@@ -1,5 +1,4 @@
 -- Each sentence of the account that says 'there is .. and none later ..', as a split of the history, both ways.
--- Assumes nothing.
 use Prim.Native.Nat.{ℕ, suc, _+_}
 use native.Mathlib.Omega.{arith}
 use native.Mathlib.Nat.{zero-add, suc-add, add-zero}

@@ -1,5 +1,4 @@
 -- Full stretches, Exceeded and Run as splits of what the limiter saw, both ways.
--- Assumes nothing.
 use Prim.Native.Nat.{ℕ, zero, suc}
 use mathlib.Core.Path.{_≡_, refl, sym, ap, ap₂, subst, _∙_}
 use mathlib.Core.Bool.{Bool, true, false, not, _&&_, cond, Bool·beq, false≢true, and-false}

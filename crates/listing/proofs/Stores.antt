@@ -1,5 +1,4 @@
 -- Bytes stored one by one, and what is still to be stored of them.
--- Assumes nothing.
 use mathlib.Core.Path.{_≡_}
 use mathlib.Core.List.{List}
 use Prim.Native.Nat.{ℕ, _+_, _<_, _≤_}

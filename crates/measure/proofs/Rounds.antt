@@ -1,5 +1,4 @@
 -- Rounds of calls, and of one function, as the code comes to them: one round more, and the reader's and the writer's answers.
--- Assumes nothing.
 use mathlib.Core.Path.{_≡_, refl, sym, ap, _∙_}
 use mathlib.Core.Bool.{Bool, true, false, cond}
 use mathlib.Core.List.{List}

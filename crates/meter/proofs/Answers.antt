@@ -1,7 +1,6 @@
 -- A call's answer: the machine refuses with the number that the history's refusal rule gives, and carries out what it accepts. A refused call
 -- leaves the record; what an accepted one asks for is proper.
--- Assumes nothing.
-use mathlib.Core.Path.{_≡_, refl, ap, _∙_, sym}
+use mathlib.Core.Path.{_≡_, refl, ap, _∙_}
 use mathlib.Core.Bool.{Bool, true, false, _&&_, _||_, cond, or-false}
 use mathlib.Core.List.{List, [], _∷_}
 use mathlib.Core.Option.{Option, none, some}
@@ -11,7 +10,7 @@ use lib.IntN.{ℤ, pos}
 use lib.Signed.{leZ}
 use Rattle.base.specs.Tests.{within, among, every}
 use Rattle.base.proofs.Bools.{and-left, and-right}
-use Rattle.events.specs.Line.{Line, isLog}
+use Rattle.events.specs.Line.{isLog}
 use Rattle.events.specs.Table.{EventRow, lookup, lawful}
 use Rattle.events.proofs.Rule.{row-passes}
 use Rattle.control.specs.declared.Request.{Request as ControlRequest}
@@ -19,27 +18,23 @@ use Rattle.control.specs.declared.Request.the-variants as request
 use Rattle.control.specs.declared.Decision.{Decision}
 use Rattle.control.specs.declared.Decision.the-variants.{Move, Stay, NotListed}
 use Rattle.control.specs.Table.{SwitchRow as SwitchRow, switchTable}
-use Rattle.control.specs.Control.{lists, orStay, decision, modeDecision, inMode}
-use Rattle.limiter.specs.declared.Watched.{Watched}
-use Rattle.limiter.specs.Limiter.{sampledPower as watchedSample}
-use Rattle.logs.specs.Lists.{changed}
+use Rattle.control.specs.Control.{lists, orStay, decision}
 use Rattle.calls.specs.declared.Call.{Call}
 use Rattle.calls.specs.declared.Call.the-variants.{Sample, RemoteDisconnect, RemoteReconnect, ManualDisconnect, ManualReconnect, SetMode, SetLimiter, SetClock, Event, SetAlarmFilter, SetErrorFilter, ClearAlarms, ClearErrors, ClearLog, Script}
-use Rattle.calls.specs.declared.Answer.{Answer}
-use Rattle.calls.specs.declared.Answer.the-variants.{Accepted, Refused}
+use Rattle.calls.specs.declared.Answer.the-variants.{Refused}
 use Rattle.calls.specs.declared.Parsed.{Parsed}
 use Rattle.calls.specs.declared.Parsed.the-variants.{Ok, NoKind}
 use Rattle.calls.specs.Calls.{callOf, InRange}
-use Rattle.history.specs.Effects.{RequestCall, remoteDisconnect, remoteReconnect, manualDisconnect, manualReconnect, alarms, errors, Effect, sampled, requested, modeSet, limitsSet, clockSet, occurred, filterSet, bitsCleared, logCleared, listedModes, Reading, refused, accepted, readRequest, readLimits, readEvent, reading}
+use Rattle.history.specs.Effects.{RequestCall, remoteDisconnect, remoteReconnect, manualDisconnect, manualReconnect, Effect, requested, listedModes, Reading, refused, accepted, readRequest, readLimits, readEvent, reading}
 use Rattle.meter.specs.declared.Meter.{Meter}
 use Rattle.meter.specs.declared.Outcome.{Outcome}
 use Rattle.meter.specs.declared.step.Scalars.{Scalars}
-use Rattle.meter.specs.State.{State, stateOf, scalarsOf, recordOf, withControl}
+use Rattle.meter.specs.State.{State, scalarsOf, recordOf}
 use Rattle.meter.specs.Sound.{soundMeter, soundState}
 use Rattle.meter.specs.Machine.{Result, refusing, making, moving, decided, answering, requestResult, modeResult, limiterResult, occurring, eventResult, clearLogResult, scriptResult, result, valuesAfter, carriedOut, applied, performed, commanded}
 use Rattle.meter.specs.Laws.{answerOf}
 use Rattle.meter.proofs.Values.{state-of-record, record-sound}
-use Rattle.meter.proofs.Effects.{requestOf, effectResult, readResult, Proper}
+use Rattle.meter.proofs.Effects.{requestOf, readResult, Proper}
 
 -- a result that a test decides
 pub either : {A : Type 0} (P : A → Type 0) (b : Bool) {x y : A} → (b ≡ true → P x) → (b ≡ false → P y) → P (cond b x y)
@@ -148,10 +143,6 @@ module _ (rows : List EventRow) (m : Meter) (c : Call) where
   pub applied-answer : soundMeter rows m ≡ true → applied rows m c .answer ≡ answerOf (reading rows (m .control .mode) c)
   unfolding applied
   applied-answer e = rw (e, by-reading rows (scalarsOf m) c) (read-answer m (reading rows (m .control .mode) c))
-
-  pub unsound-answer : soundMeter rows m ≡ false → applied rows m c ≡ record { meter = m; answer = Refused 12 }
-  unfolding applied
-  unsound-answer e = rw e
 
 -- ---- on any refusal the record is the one that came in
 kept-same : (m : Meter) (r : Result) (n : ℕ) → carriedOut m r .answer ≡ Refused n → carriedOut m r .meter ≡ m

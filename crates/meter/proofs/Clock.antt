@@ -1,5 +1,4 @@
 -- The clock: after each accepted call the machine's clock is the account's.
--- Assumes nothing.
 use native.Mathlib.Omega.{arith}
 use mathlib.Core.Path.{_≡_, ap, _∙_}
 use mathlib.Core.List.{_∷_}

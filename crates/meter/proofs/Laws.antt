@@ -1,8 +1,7 @@
 -- The laws of the machine, together.
--- Assumes nothing.
 use mathlib.Core.Path.{_≡_}
 use mathlib.Core.Bool.{true}
-use mathlib.Core.List.{List, [], _∷_, reverse, reverseAux}
+use mathlib.Core.List.{List, [], _∷_, reverseAux}
 use Rattle.base.specs.Tests.{every}
 use Rattle.events.specs.Table.{EventRow, builtIn, lawful}
 use Rattle.events.proofs.Rule.{built-in-lawful}

@@ -1,5 +1,4 @@
 -- The logs: lines put behind those kept, the oldest dropped, are the newest 32 of all lines owed. One argument over the log's number.
--- Assumes nothing.
 use Prim.Native.Nat.{ℕ, zero, suc}
 use native.Mathlib.Omega.{arith}
 use mathlib.Core.Path.{_≡_, refl, sym, ap, ap₂, _∙_}

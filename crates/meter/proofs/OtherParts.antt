@@ -1,5 +1,4 @@
 -- What an accepted call makes of the scalars apart from the control: a decision on the switch bears on the control alone.
--- Assumes nothing.
 use Prim.Native.Nat.{_+_}
 use mathlib.Core.Path.{_≡_, refl}
 use mathlib.Core.Bool.{Bool, true, false}

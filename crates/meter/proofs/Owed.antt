@@ -1,5 +1,4 @@
 -- The lines that the machine writes on an accepted call, and the log that it clears, are the account's.
--- Assumes nothing.
 use Prim.Native.Nat.{ℕ}
 use native.Mathlib.Omega.{arith}
 use mathlib.Core.Path.{_≡_, refl, sym, _∙_, subst}

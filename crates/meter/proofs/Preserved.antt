@@ -1,5 +1,4 @@
 -- Every call keeps a sound record sound, and the fresh meter is sound.
--- Assumes nothing.
 use mathlib.Core.Path.{_≡_, refl, _∙_}
 use mathlib.Core.Bool.{Bool, true, false, _&&_, not, cond, or-true}
 use mathlib.Core.List.{List, [], _∷_, _++_}

@@ -1,5 +1,4 @@
 -- The mode, the limiter settings and the filters of a history are in range, since each accepted call's numbers are.
--- Assumes nothing.
 use Prim.Native.Nat.{ℕ}
 use native.Mathlib.Omega.{arith}
 use mathlib.Core.Path.{_≡_}

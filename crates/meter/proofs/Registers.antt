@@ -1,5 +1,4 @@
 -- The registers: after each accepted call the machine's bits and filters are the account's. One argument for both registers.
--- Assumes nothing.
 use Prim.Native.Nat.{ℕ, _^_, _<_}
 use native.Mathlib.Omega.{arith}
 use mathlib.Core.Path.{_≡_, refl, sym, ap, ap₂, _∙_}

@@ -1,5 +1,4 @@
 -- After any list of calls the meter holds the account: on a fresh meter, after one more accepted call, after a refused one.
--- Assumes nothing.
 use Prim.Native.Nat.{ℕ, suc, _+_}
 use native.Mathlib.Omega.{arith}
 use mathlib.Core.Path.{_≡_, refl, ap, sym, _∙_}
@@ -21,7 +20,6 @@ use Rattle.history.specs.Registers.{stands}
 use Rattle.history.specs.Logs.{owed}
 use Rattle.history.specs.Account.{grown, acceptedCalls, opens, openings, accountOf, accountAfter, account}
 use Rattle.meter.specs.declared.Meter.{Meter}
-use Rattle.meter.specs.declared.Outcome.{Outcome}
 use Rattle.meter.specs.State.{State, recordOf}
 use Rattle.meter.specs.Sound.{soundState}
 use Rattle.meter.specs.Machine.{valuesAfter, result, recordAfter}

@@ -1,6 +1,5 @@
 -- The machine's results by what the code learns on its way: the sign of a threshold, what the event lookup answers, what the limiter tells of a
 -- sample.
--- Assumes nothing.
 use native.Mathlib.Omega.{arith}
 use mathlib.Core.Path.{_≡_, refl, ap}
 use mathlib.Core.Bool.{Bool, true, false, not}

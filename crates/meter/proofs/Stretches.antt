@@ -1,5 +1,4 @@
 -- The limiter: after each sample the machine's Exceeded, Run and firing are those that the account draws from the stretches behind it.
--- Assumes nothing.
 use Prim.Native.Nat.{ℕ, zero, suc, _≤_}
 use native.Mathlib.Numerals.{add-one}
 use mathlib.Core.Path.{_≡_, refl, ap, sym, _∙_}

@@ -1,5 +1,4 @@
 -- The switch: after each accepted call the machine's mode, switch and openings, and the line of a move, are those of the account.
--- Assumes nothing.
 use Prim.Native.Nat.{ℕ, suc, _+_}
 use native.Mathlib.Omega.{arith}
 use mathlib.Core.Path.{_≡_, refl, ap, _∙_}

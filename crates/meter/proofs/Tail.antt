@@ -1,10 +1,9 @@
 -- The tail of a call: where the step's clears and lines are put into the arrays of a sound record, the record is the one that the machine gives.
--- Assumes nothing.
 use Prim.Native.Nat.{ℕ, _≤_}
 use native.Mathlib.Omega.{arith}
 use mathlib.Core.Path.{_≡_, refl, ap, _∙_, sym}
 use mathlib.Core.Bool.{Bool, true, false, _&&_, cond}
-use mathlib.Core.List.{List, [], map}
+use mathlib.Core.List.{List, map}
 use lib.ListN.{length, take, length-map, length-append}
 use lib.Seq.{take-at, length-take-le}
 use Rattle.base.proofs.Bools.{and-right}

@@ -1,14 +1,11 @@
 -- 'Fresh takes mode, threshold, Over, Under, clock: switch 1, not Exceeded, all else zero or empty.'
 use mathlib.Core.Path.{_≡_}
-use mathlib.Core.Bool.{true, false}
+use mathlib.Core.Bool.{false}
 use mathlib.Core.List.{[], _∷_}
 use Prim.Native.Nat.{ℕ}
-use lib.Dec.{leb}
 use lib.IntN.{pos}
-use Rattle.limiter.specs.Limiter.{isThreshold, isDuration}
 use Rattle.calls.specs.declared.Answer.{Answer}
 use Rattle.calls.specs.declared.Answer.the-variants.{Accepted, Refused}
-use Rattle.calls.specs.Calls.{Word, Signed}
 use Rattle.history.specs.Effects.{Fresh}
 use Rattle.meter.specs.declared.Outcome.{Outcome}
 use Rattle.meter.specs.State.{State, recordOf}

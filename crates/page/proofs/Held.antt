@@ -1,5 +1,4 @@
 -- The numbers of a sound record whose numbers are values of their types fit the page's bytes.
--- Assumes nothing.
 use mathlib.Core.Path.{_≡_, refl}
 use mathlib.Core.Bool.{Bool, true, false, _&&_, cond}
 use mathlib.Core.List.{List}

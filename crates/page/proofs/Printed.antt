@@ -1,10 +1,8 @@
 -- The page that document 01 prints of an account is the page of the record that holds the account.
--- Assumes nothing.
-use mathlib.Core.Path.{_≡_, refl, ap, _∙_, sym}
+use mathlib.Core.Path.{_≡_, refl, ap, _∙_}
 use mathlib.Core.Bool.{true}
 use mathlib.Core.List.{List, [], _∷_, _++_, append-assoc, append-nil, map, map-append, flatMap, reverse}
 use Prim.Native.Nat.{ℕ, zero, suc, _-_, _*_, _≤_}
-use native.Mathlib.Nat.{suc-mul}
 use native.Mathlib.Omega.{arith}
 use lib.ListN.{length, replicate, length-append, length-map, length-replicate}
 use Rattle.codec.specs.BigEndian.{be}
@@ -27,7 +25,7 @@ use Rattle.meter.proofs.Values.{logs-sound}
 use Rattle.meter.proofs.Simulates.{named-sound}
 use Rattle.meter.proofs.Laws.{turned}
 use Rattle.page.specs.Layout.{controlArea, limiterArea, clockArea, registerArea, lineFormat, logArea, logsArea, areasOf, ofAreas, layout, directory, pageOf}
-use Rattle.page.specs.AccountPage.{printedPairs, fields, logLineBytes, logBytes, accountPage}
+use Rattle.page.specs.AccountPage.{printedPairs, fields, logBytes, accountPage}
 use Rattle.page.proofs.Lines.{encs-append}
 use Rattle.page.proofs.Inverse.{three-back}
 

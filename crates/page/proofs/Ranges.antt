@@ -1,5 +1,4 @@
 -- The numbers of an account are values of their types: those that are held at 32 bits, and those that calls bring.
--- Assumes nothing.
 use mathlib.Core.Path.{_≡_, refl}
 use mathlib.Core.Bool.{Bool, true, false, not, _&&_, cond}
 use mathlib.Core.List.{List, [], _∷_, _++_, map}

@@ -1,5 +1,4 @@
 -- The threshold: an `i32` that is not negative, the number in its four bytes, and the reader's test of the bytes.
--- Assumes nothing.
 use mathlib.Core.Path.{_≡_, refl, sym, _∙_}
 use mathlib.Core.Bool.{Bool, true, false, _&&_, and-true}
 use mathlib.Core.List.{List}

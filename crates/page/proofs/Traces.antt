@@ -1,6 +1,5 @@
 -- Demand 3: the record after a list holds the account, its numbers fit the page's bytes, and a page gives back the record that it was written from.
--- Assumes nothing.
-use mathlib.Core.Path.{_≡_, refl, sym, ap, _∙_}
+use mathlib.Core.Path.{_≡_, sym, ap, _∙_}
 use mathlib.Core.Bool.{true}
 use mathlib.Core.List.{List, [], reverse}
 use Prim.Native.Nat.{ℕ, _≤_}

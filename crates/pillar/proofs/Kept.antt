@@ -1,6 +1,5 @@
 -- What the functions answer and leave, as their code comes to it: a refusal is the answer and leaves every byte; an accepted record is the
 -- writer's.
--- Assumes nothing.
 use mathlib.Core.Path.{_≡_, sym, ap, _∙_}
 use mathlib.Core.List.{List}
 use Prim.Native.Nat.{ℕ}

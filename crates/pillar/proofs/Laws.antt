@@ -1,6 +1,5 @@
 -- A page that is read holds a sound record, and calls keep it sound, so that the writer takes it: the page after a call is that of the machine's
 -- record, and after a list of calls that of the account.
--- Assumes nothing.
 use mathlib.Core.Path.{_≡_, refl, sym, ap, _∙_}
 use mathlib.Core.Bool.{Bool, true, false, _&&_, cond}
 use mathlib.Core.List.{List, [], _∷_, _++_, append-nil, reverse}

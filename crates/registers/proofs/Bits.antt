@@ -1,5 +1,4 @@
 -- The laws of a register, bit by bit, through the numbers that 32 bits make.
--- Assumes nothing.
 use mathlib.Core.Path.{_≡_, refl, sym, ap, ap₂, _∙_}
 use mathlib.Core.Bool.{Bool, not, _&&_, _||_}
 use Prim.Native.Nat.{ℕ, _^_, _<_}

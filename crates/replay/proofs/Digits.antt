@@ -1,5 +1,4 @@
 -- The decimal digits of a number, by its quotient by ten; how many there are; the value of the digits; and the length of a line's fields.
--- Assumes nothing.
 use mathlib.Core.Path.{_≡_, refl}
 use mathlib.Core.Bool.{Bool, true, false}
 use mathlib.Core.List.{List, [], _∷_, _++_}

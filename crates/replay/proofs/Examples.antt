@@ -1,5 +1,4 @@
 -- The examples, computed.
--- Assumes nothing.
 use mathlib.Core.Path.{refl}
 use Rattle.codec.specs.BigEndian.{be}
 use Rattle.codec.specs.Format.{numAt}

@@ -1,5 +1,4 @@
 -- Demand 3 of what `replay` leaves: an input that it takes is a trace, and the buffer then begins with the page of the trace's account.
--- Assumes nothing.
 use mathlib.Core.Path.{_≡_, refl, sym, ap, _∙_}
 use mathlib.Core.Bool.{Bool, true, false, cond}
 use mathlib.Core.List.{List}

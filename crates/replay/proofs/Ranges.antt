@@ -1,5 +1,4 @@
 -- The numbers of records that are read from bytes are values of their types: of the fresh settings, and of every call that the records name.
--- Assumes nothing.
 use mathlib.Core.Path.{_≡_, refl}
 use mathlib.Core.Bool.{Bool, true, false, cond}
 use mathlib.Core.List.{List, [], _∷_}

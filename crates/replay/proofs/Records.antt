@@ -1,6 +1,5 @@
 -- The input's record: where its numbers stand, past the end too; and its format is lawful, so that what is written is read back, of a whole
 -- input too.
--- Assumes nothing.
 use mathlib.Core.Path.{_≡_, refl, ap, _∙_}
 use mathlib.Core.List.{List, [], _∷_, append-nil, flatMap}
 use Prim.Native.Nat.{ℕ, _+_, _-_, _/_, _≤_}

@@ -1,6 +1,5 @@
 -- A whole input: the meter after its last record holds the account of the input's history and is sound, so that the writer puts the account's
 -- page into the buffer.
--- Assumes nothing.
 use mathlib.Core.Path.{_≡_, refl, sym, ap, _∙_}
 use mathlib.Core.Bool.{Bool, true, false, cond}
 use mathlib.Core.List.{List, [], _∷_, _++_}

@@ -9,12 +9,6 @@ use Rattle.calls.proofs.Named.{laws}
 use Rattle.calls.proofs.read_kind.Statement.{statement}
 use Rattle.calls.proofs.read_kind.Tie as tie
 
-signed-requires : tie.Need-signed-requires
-signed-requires c κs = search needs
-
-signed-requires-2 : tie.Need-signed-requires-2
-signed-requires-2 c κs = search needs
-
 returns : tie.Need-returns
 unfolding callOf
 returns c = (rw (c .before .match .keys1) (ap (λ (z : ℤ). Ok (Sample z)) (search needs ∙ c .signed .ensures)), laws)
@@ -85,8 +79,8 @@ pub read-kind-spec : {M : Type 1} → statement M
 read-kind-spec =
     tie.close
     (tie.spec
-    signed-requires
-    signed-requires-2
+    (λ c κs. search needs)
+    (λ c κs. search needs)
     returns
     returns-2
     returns-3

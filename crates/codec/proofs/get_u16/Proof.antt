@@ -7,18 +7,6 @@ use Rattle.codec.proofs.get_u16.Tie as tie
 returns : tie.Need-returns
 returns c = sym (numAt-past 2 _ _ (c .if1 .taken))
 
-shared-slice-read-join-u16 : tie.Need-shared-slice-read-join-u16
-shared-slice-read-join-u16 c = search needs
-
-add-get-u8 : tie.Need-add-get-u8
-add-get-u8 c = search needs
-
-get-u8-requires : tie.Need-get-u8-requires
-get-u8-requires c κs = search needs
-
-join-u16-requires : tie.Need-join-u16-requires
-join-u16-requires c κs = search needs
-
 returns-2 : tie.Need-returns-2
 returns-2 c =
     let a = c .before .before .before .before .before .args in
@@ -29,8 +17,8 @@ get-u16-spec =
     tie.close
     (tie.spec
     returns
-    shared-slice-read-join-u16
-    add-get-u8
-    get-u8-requires
-    join-u16-requires
+    (λ c. search needs)
+    (λ c. search needs)
+    (λ c κs. search needs)
+    (λ c κs. search needs)
     returns-2)

@@ -5,45 +5,6 @@ use Rattle.control.proofs.Answers.{answered, answers}
 use Rattle.control.proofs.decide.Statement.{statement}
 use Rattle.control.proofs.decide.Tie as tie
 
-enum-told : tie.Need-enum-told
-enum-told c = search needs
-
-move-from-requires : tie.Need-move-from-requires
-move-from-requires c κs = search needs
-
-move-from-requires-2 : tie.Need-move-from-requires-2
-move-from-requires-2 c κs = search needs
-
-enum-told-2 : tie.Need-enum-told-2
-enum-told-2 c = search needs
-
-leave-requires : tie.Need-leave-requires
-leave-requires c κs = search needs
-
-enum-told-3 : tie.Need-enum-told-3
-enum-told-3 c = search needs
-
-move-from-requires-3 : tie.Need-move-from-requires-3
-move-from-requires-3 c κs = search needs
-
-enum-told-4 : tie.Need-enum-told-4
-enum-told-4 c = search needs
-
-move-from-requires-4 : tie.Need-move-from-requires-4
-move-from-requires-4 c κs = search needs
-
-enum-told-5 : tie.Need-enum-told-5
-enum-told-5 c = search needs
-
-move-from-requires-5 : tie.Need-move-from-requires-5
-move-from-requires-5 c κs = search needs
-
-enum-told-6 : tie.Need-enum-told-6
-enum-told-6 c = search needs
-
-move-from-requires-6 : tie.Need-move-from-requires-6
-move-from-requires-6 c κs = search needs
-
 returns : tie.Need-returns
 unfolding answered
 returns c = search answers
@@ -107,19 +68,19 @@ pub decide-spec : {M : Type 1} → statement M
 decide-spec =
     tie.close
     (tie.spec
-    enum-told
-    move-from-requires
-    move-from-requires-2
-    enum-told-2
-    leave-requires
-    enum-told-3
-    move-from-requires-3
-    enum-told-4
-    move-from-requires-4
-    enum-told-5
-    move-from-requires-5
-    enum-told-6
-    move-from-requires-6
+    (λ c. search needs)
+    (λ c κs. search needs)
+    (λ c κs. search needs)
+    (λ c. search needs)
+    (λ c κs. search needs)
+    (λ c. search needs)
+    (λ c κs. search needs)
+    (λ c. search needs)
+    (λ c κs. search needs)
+    (λ c. search needs)
+    (λ c κs. search needs)
+    (λ c. search needs)
+    (λ c κs. search needs)
     returns
     returns-2
     returns-3

@@ -1,5 +1,4 @@
 -- `measure_read` meets its contract: the rounds so far that were accepted, and the page with the last of them.
--- Assumes nothing.
 use mathlib.Core.Path.{_≡_, refl, ap, _∙_}
 use Prim.Native.Nat.{ℕ, _-_, _≤_}
 use native.Mathlib.Omega.{arith}
@@ -27,28 +26,10 @@ loop-holds : tie.Need-loop-holds Inv-loop μ-loop
 unfolding passing pageAfterRounds
 loop-holds c = (omega arith, refl, refl, refl)
 
-count-round-requires : tie.Need-count-round-requires Inv-loop μ-loop
-count-round-requires c κs = search needs
-
-read-page-requires : tie.Need-read-page-requires Inv-loop μ-loop
-read-page-requires c κs = search needs
-
-number-requires : tie.Need-number-requires Inv-loop μ-loop
-number-requires c κs = search needs
-
-one-if-requires : tie.Need-one-if-requires Inv-loop μ-loop
-one-if-requires c κs = search needs
-
 add-accepted : tie.Need-add-accepted Inv-loop μ-loop
 add-accepted c =
     let l = c .before .before .before .before .before .before .before .before .before .loop in
     omega (arith, passing-room (l .round) (l .accepted) (c .one-if .result) _ (eqb (c .before .number .result) 0) (l .inv .1) (c .one-if .ensures))
-
-add-round : tie.Need-add-round Inv-loop μ-loop
-add-round c = search needs
-
-loop-less : tie.Need-loop-less Inv-loop μ-loop
-loop-less c = search needs
 
 loop-again : tie.Need-loop-again Inv-loop μ-loop
 loop-again c =
@@ -65,9 +46,6 @@ loop-again c =
       search needs,
     )
 
-same-length : tie.Need-same-length Inv-loop μ-loop
-same-length c = search needs
-
 returns : tie.Need-returns Inv-loop μ-loop
 returns c =
     let l = c .before .loop in
@@ -81,13 +59,13 @@ measure-read-spec =
     Inv-loop
     μ-loop
     loop-holds
-    count-round-requires
-    read-page-requires
-    number-requires
-    one-if-requires
+    (λ c κs. search needs)
+    (λ c κs. search needs)
+    (λ c κs. search needs)
+    (λ c κs. search needs)
     add-accepted
-    add-round
-    loop-less
+    (λ c. search needs)
+    (λ c. search needs)
     loop-again
-    same-length
+    (λ c. search needs)
     returns)

@@ -1,5 +1,4 @@
 -- `measure_sound` meets its contract: the rounds so far that were sound, on the meter that was read but for its clock.
--- Assumes nothing.
 use mathlib.Core.Path.{_≡_, refl, ap, _∙_}
 use Prim.Native.Nat.{_-_, _≤_}
 use native.Mathlib.Omega.{arith}
@@ -20,29 +19,14 @@ Inv-loop page rounds meter₀ sound₀ round₀ meter sound round =
 abbrev μ-loop : tie.MeasureT-loop
 μ-loop page rounds meter₀ sound₀ round₀ meter sound round = rounds - round
 
-read-page-requires : tie.Need-read-page-requires Inv-loop μ-loop
-read-page-requires c κs = search needs
-
 loop-holds : tie.Need-loop-holds Inv-loop μ-loop
 unfolding passing
 loop-holds c = (omega arith, refl, refl)
-
-sound-requires : tie.Need-sound-requires Inv-loop μ-loop
-sound-requires c κs = search needs
-
-one-if-requires : tie.Need-one-if-requires Inv-loop μ-loop
-one-if-requires c κs = search needs
 
 add-sound : tie.Need-add-sound Inv-loop μ-loop
 add-sound c =
     let l = c .before .before .before .loop in
     omega (arith, passing-room (l .round) (l .sound) (c .one-if .result) _ (c .before .sound .result) (l .inv .1) (c .one-if .ensures))
-
-add-round : tie.Need-add-round Inv-loop μ-loop
-add-round c = search needs
-
-loop-less : tie.Need-loop-less Inv-loop μ-loop
-loop-less c = search needs
 
 loop-again : tie.Need-loop-again Inv-loop μ-loop
 loop-again c =
@@ -66,12 +50,12 @@ measure-sound-spec =
     (tie.spec
     Inv-loop
     μ-loop
-    read-page-requires
+    (λ c κs. search needs)
     loop-holds
-    sound-requires
-    one-if-requires
+    (λ c κs. search needs)
+    (λ c κs. search needs)
     add-sound
-    add-round
-    loop-less
+    (λ c. search needs)
+    (λ c. search needs)
     loop-again
     returns)

@@ -1,5 +1,4 @@
 -- `measure_write` meets its contract: the rounds so far that were accepted, and the bytes that they left.
--- Assumes nothing.
 use mathlib.Core.Path.{_≡_, refl, ap, _∙_}
 use Prim.Native.Nat.{ℕ, _-_, _≤_}
 use native.Mathlib.Omega.{arith}
@@ -24,32 +23,14 @@ Inv-loop page₀ rounds meter₀ accepted₀ round₀ page meter accepted round 
 abbrev μ-loop : tie.MeasureT-loop
 μ-loop page₀ rounds meter₀ accepted₀ round₀ page meter accepted round = rounds - round
 
-read-page-requires : tie.Need-read-page-requires Inv-loop μ-loop
-read-page-requires c κs = search needs
-
 loop-holds : tie.Need-loop-holds Inv-loop μ-loop
 unfolding passing writtenRounds
 loop-holds c = (omega arith, refl, refl, refl, refl)
-
-write-page-requires : tie.Need-write-page-requires Inv-loop μ-loop
-write-page-requires c κs = search needs
-
-number-requires : tie.Need-number-requires Inv-loop μ-loop
-number-requires c κs = search needs
-
-one-if-requires : tie.Need-one-if-requires Inv-loop μ-loop
-one-if-requires c κs = search needs
 
 add-accepted : tie.Need-add-accepted Inv-loop μ-loop
 add-accepted c =
     let l = c .before .before .before .before .before .before .before .loop in
     omega (arith, passing-room (l .round) (l .accepted) (c .one-if .result) _ (eqb (c .before .number .result) 0) (l .inv .1) (c .one-if .ensures))
-
-add-round : tie.Need-add-round Inv-loop μ-loop
-add-round c = search needs
-
-loop-less : tie.Need-loop-less Inv-loop μ-loop
-loop-less c = search needs
 
 loop-again : tie.Need-loop-again Inv-loop μ-loop
 loop-again c =
@@ -71,9 +52,6 @@ loop-again c =
       search needs,
     )
 
-same-length : tie.Need-same-length Inv-loop μ-loop
-same-length c = search needs
-
 returns : tie.Need-returns Inv-loop μ-loop
 returns c =
     let l = c .before .loop in
@@ -87,14 +65,14 @@ measure-write-spec =
     (tie.spec
     Inv-loop
     μ-loop
-    read-page-requires
+    (λ c κs. search needs)
     loop-holds
-    write-page-requires
-    number-requires
-    one-if-requires
+    (λ c κs. search needs)
+    (λ c κs. search needs)
+    (λ c κs. search needs)
     add-accepted
-    add-round
-    loop-less
+    (λ c. search needs)
+    (λ c. search needs)
     loop-again
-    same-length
+    (λ c. search needs)
     returns)

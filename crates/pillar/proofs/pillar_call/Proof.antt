@@ -6,15 +6,6 @@ use Rattle.pillar.proofs.Laws.{laws}
 use Rattle.pillar.proofs.pillar_call.Statement.{statement}
 use Rattle.pillar.proofs.pillar_call.Tie as tie
 
-read-kind-requires : tie.Need-read-kind-requires
-read-kind-requires c κs = search needs
-
-enum-known-parsed : tie.Need-enum-known-parsed
-enum-known-parsed c = search needs
-
-enum-told : tie.Need-enum-told
-enum-told c = search needs
-
 -- the command's reading, and that it named a call
 abbrev reading : tie.After-read-page → tie.After-parsed
 reading c = c .before .before .before
@@ -22,18 +13,6 @@ reading c = c .before .before .before
 returns : tie.Need-returns
 unfolding callNumber callPage
 returns c = (rw (← c .before .before .read-kind .ensures .0) (call-no-kind _ _ (c .enum-told .given .1)), laws)
-
-read-page-requires : tie.Need-read-page-requires
-read-page-requires c κs = search needs
-
-enum-known-answer : tie.Need-enum-known-answer
-enum-known-answer c = search needs
-
-cast-result : tie.Need-cast-result
-cast-result c = search needs
-
-same-length : tie.Need-same-length
-same-length c = search needs
 
 returns-2 : tie.Need-returns-2
 unfolding callNumber callPage
@@ -44,18 +23,6 @@ returns-2 c =
           (call-refused _ _ _ (parsed .parsed .given .1) _ (read .read-page .ensures .0) _ (c .before .answer .given .1)),
       laws,
     )
-
-enum-told-2 : tie.Need-enum-told-2
-enum-told-2 c = search needs
-
-apply-requires : tie.Need-apply-requires
-apply-requires c κs = search needs
-
-keep-requires : tie.Need-keep-requires
-keep-requires c κs = search needs
-
-same-length-2 : tie.Need-same-length-2
-same-length-2 c = search needs
 
 returns-3 : tie.Need-returns-3
 unfolding callNumber callPage
@@ -73,17 +40,17 @@ pub pillar-call-spec : {M : Type 1} → statement M
 pillar-call-spec =
     tie.close
     (tie.spec
-    read-kind-requires
-    enum-known-parsed
-    enum-told
+    (λ c κs. search needs)
+    (λ c. search needs)
+    (λ c. search needs)
     returns
-    read-page-requires
-    enum-known-answer
-    cast-result
-    same-length
+    (λ c κs. search needs)
+    (λ c. search needs)
+    (λ c. search needs)
+    (λ c. search needs)
     returns-2
-    enum-told-2
-    apply-requires
-    keep-requires
-    same-length-2
+    (λ c. search needs)
+    (λ c κs. search needs)
+    (λ c κs. search needs)
+    (λ c. search needs)
     returns-3)

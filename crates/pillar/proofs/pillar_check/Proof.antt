@@ -1,5 +1,4 @@
 -- `pillar_check` meets its contract: the number is that of the reader's answer.
--- Assumes nothing.
 use mathlib.Core.Path.{_∙_, ap}
 use borrow.Author.Needs.{needs}
 use Rattle.calls.specs.Calls.{answerNumber}
@@ -7,17 +6,8 @@ use Rattle.meter.specs.declared.Outcome.{Outcome}
 use Rattle.pillar.proofs.pillar_check.Statement.{statement}
 use Rattle.pillar.proofs.pillar_check.Tie as tie
 
-read-page-requires : tie.Need-read-page-requires
-read-page-requires c κs = search needs
-
-number-requires : tie.Need-number-requires
-number-requires c κs = search needs
-
-cast-result : tie.Need-cast-result
-cast-result c = search needs
-
 returns : tie.Need-returns
 returns c = c .number .ensures ∙ ap (λ (o : Outcome). answerNumber (o .answer)) (c .before .read-page .ensures .0)
 
 pub pillar-check-spec : {M : Type 1} → statement M
-pillar-check-spec = tie.close (tie.spec read-page-requires number-requires cast-result returns)
+pillar-check-spec = tie.close (tie.spec (λ c κs. search needs) (λ c κs. search needs) (λ c. search needs) returns)

@@ -1,19 +1,9 @@
 -- `pillar_fresh` meets its contract: the outcome of fresh is kept.
--- Assumes nothing.
 use mir.Facts.{toZ-ofZ}
 use mir.Syntax.{w32}
 use borrow.Author.Needs.{needs}
 use Rattle.pillar.proofs.pillar_fresh.Statement.{statement}
 use Rattle.pillar.proofs.pillar_fresh.Tie as tie
-
-fresh-requires : tie.Need-fresh-requires
-fresh-requires c κs = search needs
-
-keep-requires : tie.Need-keep-requires
-keep-requires c κs = search needs
-
-same-length : tie.Need-same-length
-same-length c = search needs
 
 returns : tie.Need-returns
 returns c =
@@ -22,4 +12,4 @@ returns c =
     rw (fresh .fresh .ensures .0, toZ-ofZ {w = w32} {z = fresh .before .before .args .threshold} (fresh .before .before .fits .threshold)) at (keep .keep .ensures)
 
 pub pillar-fresh-spec : {M : Type 1} → statement M
-pillar-fresh-spec = tie.close (tie.spec fresh-requires keep-requires same-length returns)
+pillar-fresh-spec = tie.close (tie.spec (λ c κs. search needs) (λ c κs. search needs) (λ c. search needs) returns)

@@ -83,9 +83,6 @@ returns-2 : tie.Need-returns-2
 unfolding replayAnswer
 returns-2 c = (with-bytes _ _ Short (rw (some (c .before), lt-ltb _ _ (c .if2 .taken))), claims)
 
-record-at-requires : tie.Need-record-at-requires
-record-at-requires c κs = search needs
-
 returns-3 : tie.Need-returns-3
 unfolding replayAnswer
 returns-3 c =
@@ -93,42 +90,15 @@ returns-3 c =
     let other = rw (kind-read first) at (ne-eqb _ _ (c .if3 .taken)) in
     (with-bytes _ _ Bad (rw (some (first .before .before), first-whole (first .before), other)), claims)
 
-start-requires : tie.Need-start-requires
-start-requires c κs = search needs
-
-enum-known-answer : tie.Need-enum-known-answer
-enum-known-answer c = search needs
-
 returns-4 : tie.Need-returns-4
 returns-4 c = (with-bytes _ _ (Refused _) (begins (c .before .before .before) .answer ∙ rw (c .before .answer .given .1)), claims)
-
-enum-told : tie.Need-enum-told
-enum-told c = search needs
 
 returns-5 : tie.Need-returns-5
 returns-5 c =
     (with-bytes _ _ Short (begins (c .before .before .before) .answer ∙ rw (c .before .enum-told .given .1, ne-eqb _ _ (c .if4 .taken))), claims)
 
-run-from-requires : tie.Need-run-from-requires
-run-from-requires c κs = search needs
-
-write-page-requires : tie.Need-write-page-requires
-write-page-requires c κs = search needs
-
-enum-told-2 : tie.Need-enum-told-2
-enum-told-2 c = search needs
-
-enum-known-written : tie.Need-enum-known-written
-enum-known-written c = search needs
-
-same-length : tie.Need-same-length
-same-length c = search needs
-
 returns-6 : tie.Need-returns-6
 returns-6 c = (rw (c .enum-told2 .given .1) at (page-written (c .before .before .before .before)), claims)
-
-same-length-2 : tie.Need-same-length-2
-same-length-2 c = search needs
 
 returns-7 : tie.Need-returns-7
 returns-7 c = (rw (c .before .written .given .1) at (page-written (c .before .before .before .before .before)), claims)
@@ -139,18 +109,18 @@ replay-spec =
     (tie.spec
     returns
     returns-2
-    record-at-requires
+    (λ c κs. search needs)
     returns-3
-    start-requires
-    enum-known-answer
+    (λ c κs. search needs)
+    (λ c. search needs)
     returns-4
-    enum-told
+    (λ c. search needs)
     returns-5
-    run-from-requires
-    write-page-requires
-    enum-told-2
-    enum-known-written
-    same-length
+    (λ c κs. search needs)
+    (λ c κs. search needs)
+    (λ c. search needs)
+    (λ c. search needs)
+    (λ c. search needs)
     returns-6
-    same-length-2
+    (λ c. search needs)
     returns-7)

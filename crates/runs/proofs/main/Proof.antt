@@ -1,5 +1,4 @@
 -- `main` ends: the measure is the number of arguments that are left.
--- Assumes nothing.
 use Prim.Native.Nat.{_-_}
 use borrow.Author.Needs.{needs}
 use Rattle.runs.proofs.main.Statement.{statement}
@@ -20,12 +19,6 @@ loop-holds c = tt
 print-argument-requires : tie.Need-print-argument-requires Inv-loop μ-loop
 print-argument-requires c κs = tt
 
-add-i : tie.Need-add-i Inv-loop μ-loop
-add-i c = search needs
-
-loop-less : tie.Need-loop-less Inv-loop μ-loop
-loop-less c = search needs
-
 loop-again : tie.Need-loop-again Inv-loop μ-loop
 loop-again c = tt
 
@@ -35,4 +28,4 @@ returns c = tt
 pub main-spec : {M : Type 1} → statement M
 main-spec =
     tie.close
-    (tie.spec Inv-loop μ-loop arg-count-requires loop-holds print-argument-requires add-i loop-less loop-again returns)
+    (tie.spec Inv-loop μ-loop arg-count-requires loop-holds print-argument-requires (λ c. search needs) (λ c. search needs) loop-again returns)

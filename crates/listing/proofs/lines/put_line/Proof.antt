@@ -1,5 +1,4 @@
 -- `put_line` stores the line's bytes: those that it has stored and those that are left are the line's.
--- Assumes nothing.
 use Prim.Native.Nat.{_+_, _-_, _<_, _≤_}
 use mathlib.Core.Path.{_≡_, _∙_, sym}
 use native.Mathlib.Omega.{arith}
@@ -23,26 +22,14 @@ abbrev μ-loop : tie.MeasureT-loop
 size : (c : tie.Start Inv-loop μ-loop) → length (c .args .t3 .bytes) ≡ 40
 size c = search needs
 
-loop-holds : tie.Need-loop-holds Inv-loop μ-loop
-loop-holds c = search needs
-
-element-copy-out-text : tie.Need-element-copy-out-text Inv-loop μ-loop
-element-copy-out-text c = search needs
-
 slice-write-text : tie.Need-slice-write-text Inv-loop μ-loop
 slice-write-text c =
     let l = c .before .before .loop in
     let line = c .before .before .before .args .t3 in
     omega (arith, length-drop (l .from) (line .bytes), length-drop (line .start) (line .bytes))
 
-add-from : tie.Need-add-from Inv-loop μ-loop
-add-from c = search needs
-
 add-to : tie.Need-add-to Inv-loop μ-loop
 add-to c = omega (arith, slice-write-text c)
-
-loop-less : tie.Need-loop-less Inv-loop μ-loop
-loop-less c = search needs
 
 loop-again : tie.Need-loop-again Inv-loop μ-loop
 loop-again c =
@@ -53,9 +40,6 @@ loop-again c =
       omega (arith, l .inv .1, length-drop (l .from) xs, length-drop (l .from + 1) xs),
       search needs,
     )
-
-same-length : tie.Need-same-length Inv-loop μ-loop
-same-length c = search needs
 
 returns : tie.Need-returns Inv-loop μ-loop
 returns c =
@@ -75,12 +59,12 @@ put-line-spec =
     (tie.spec
     Inv-loop
     μ-loop
-    loop-holds
-    element-copy-out-text
+    (λ c. search needs)
+    (λ c. search needs)
     slice-write-text
-    add-from
+    (λ c. search needs)
     add-to
-    loop-less
+    (λ c. search needs)
     loop-again
-    same-length
+    (λ c. search needs)
     returns)

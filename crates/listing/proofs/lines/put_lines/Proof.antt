@@ -1,5 +1,4 @@
 -- `put_lines` puts the lines of a block's whole records: those that it has put and those of the records that are left are the block's.
--- Assumes nothing.
 use Prim.Native.Nat.{_/_, _-_, _≤_}
 use native.Mathlib.Omega.{arith}
 use borrow.Author.Needs.{needs}
@@ -24,31 +23,10 @@ loop-holds c =
     let s = a .block .now in
     (omega arith, none-listed (a .text .now) (a .position) (a .before) (recordsFrom 0 s))
 
-mul-record-at : tie.Need-mul-record-at Inv-loop μ-loop
-mul-record-at c = search needs
-
-record-at-requires : tie.Need-record-at-requires Inv-loop μ-loop
-record-at-requires c κs = search needs
-
-next-requires : tie.Need-next-requires Inv-loop μ-loop
-next-requires c κs = search needs
-
-add-line-of : tie.Need-add-line-of Inv-loop μ-loop
-add-line-of c = search needs
-
-line-of-requires : tie.Need-line-of-requires Inv-loop μ-loop
-line-of-requires c κs = search needs
-
 put-line-requires : tie.Need-put-line-requires Inv-loop μ-loop
 put-line-requires c κs =
     let l = c .before .before .before .before .before .loop in
     omega (arith, l .inv .1 .size, l .inv .1 .room)
-
-add-i : tie.Need-add-i Inv-loop μ-loop
-add-i c = search needs
-
-loop-less : tie.Need-loop-less Inv-loop μ-loop
-loop-less c = search needs
 
 loop-again : tie.Need-loop-again Inv-loop μ-loop
 loop-again c =
@@ -83,14 +61,14 @@ put-lines-spec =
     Inv-loop
     μ-loop
     loop-holds
-    mul-record-at
-    record-at-requires
-    next-requires
-    add-line-of
-    line-of-requires
+    (λ c. search needs)
+    (λ c κs. search needs)
+    (λ c κs. search needs)
+    (λ c. search needs)
+    (λ c κs. search needs)
     put-line-requires
-    add-i
-    loop-less
+    (λ c. search needs)
+    (λ c. search needs)
     loop-again
     same-length
     returns)

@@ -47,14 +47,8 @@ after-refusal c =
     let s = start2 two in
     in-front (after-state two) (spaced (s .args .refusal)) (room-at s .refusal) (c .put-field3 .ensures)
 
-slice-aggregate-put-field : tie.Need-slice-aggregate-put-field
-slice-aggregate-put-field c = search needs
-
 put-field-requires : tie.Need-put-field-requires
 put-field-requires c κs = (room-at (c .before) .openings, omega arith)
-
-slice-aggregate-put-field-2 : tie.Need-slice-aggregate-put-field-2
-slice-aggregate-put-field-2 c = search needs
 
 put-field-requires-2 : tie.Need-put-field-requires-2
 put-field-requires-2 c κs =
@@ -62,17 +56,11 @@ put-field-requires-2 c κs =
     let s = start1 one in
     fits-in-front (after-openings one) (spaced (s .args .state)) (room-at s .switch) (omega arith)
 
-slice-aggregate-put-field-3 : tie.Need-slice-aggregate-put-field-3
-slice-aggregate-put-field-3 c = search needs
-
 put-field-requires-3 : tie.Need-put-field-requires-3
 put-field-requires-3 c κs =
     let two = c .before .before in
     let s = start2 two in
     fits-in-front (after-state two) (spaced (s .args .refusal)) (room-at s .refusal) (omega arith)
-
-slice-aggregate-put-field-4 : tie.Need-slice-aggregate-put-field-4
-slice-aggregate-put-field-4 c = search needs
 
 put-field-requires-4 : tie.Need-put-field-requires-4
 put-field-requires-4 c κs =
@@ -95,12 +83,12 @@ pub line-with-spec : {M : Type 1} → statement M
 line-with-spec =
     tie.close
     (tie.spec
-    slice-aggregate-put-field
+    (λ c. search needs)
     put-field-requires
-    slice-aggregate-put-field-2
+    (λ c. search needs)
     put-field-requires-2
-    slice-aggregate-put-field-3
+    (λ c. search needs)
     put-field-requires-3
-    slice-aggregate-put-field-4
+    (λ c. search needs)
     put-field-requires-4
     returns)

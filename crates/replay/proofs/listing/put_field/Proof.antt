@@ -29,29 +29,14 @@ loop-holds c =
 sub-at-2 : tie.Need-sub-at-2 Inv-loop μ-loop
 sub-at-2 c = omega (arith, some-digits (c .before .loop .rest))
 
-cast-out : tie.Need-cast-out Inv-loop μ-loop
-cast-out c = search needs
-
-add-out : tie.Need-add-out Inv-loop μ-loop
-add-out c = search needs
-
 slice-write-out-2 : tie.Need-slice-write-out-2 Inv-loop μ-loop
 slice-write-out-2 c = omega (arith, some-digits (c .before .loop .rest))
-
-loop-less : tie.Need-loop-less Inv-loop μ-loop
-loop-less c = search needs
 
 loop-again : tie.Need-loop-again Inv-loop μ-loop
 loop-again c = next-digit (c .before .loop .inv) (search needs)
 
 sub-at-3 : tie.Need-sub-at-3 Inv-loop μ-loop
 sub-at-3 c = omega (arith, some-digits (c .before .loop .rest))
-
-cast-out-2 : tie.Need-cast-out-2 Inv-loop μ-loop
-cast-out-2 c = search needs
-
-add-out-2 : tie.Need-add-out-2 Inv-loop μ-loop
-add-out-2 c = search needs
 
 slice-write-out-3 : tie.Need-slice-write-out-3 Inv-loop μ-loop
 slice-write-out-3 c = omega (arith, some-digits (c .before .loop .rest))
@@ -79,14 +64,14 @@ put-field-spec =
     slice-write-out
     loop-holds
     sub-at-2
-    cast-out
-    add-out
+    (λ c. search needs)
+    (λ c. search needs)
     slice-write-out-2
-    loop-less
+    (λ c. search needs)
     loop-again
     sub-at-3
-    cast-out-2
-    add-out-2
+    (λ c. search needs)
+    (λ c. search needs)
     slice-write-out-3
     same-length
     returns)

@@ -23,29 +23,14 @@ abbrev μ-loop : tie.MeasureT-loop
 sized : (c : tie.Start Inv-loop μ-loop) → Sized (c .args .before .logs)
 sized c = record { counts = search needs; clocks = search needs; codes = search needs }
 
-scalars-requires : tie.Need-scalars-requires Inv-loop μ-loop
-scalars-requires c κs = search needs
-
 loop-holds : tie.Need-loop-holds Inv-loop μ-loop
 loop-holds c = (sized (c .before .before .before .before .before), refl)
 
 mul-whole-record-at : tie.Need-mul-whole-record-at Inv-loop μ-loop
 mul-whole-record-at c = search needs
 
-whole-record-at-requires : tie.Need-whole-record-at-requires Inv-loop μ-loop
-whole-record-at-requires c κs = search needs
-
-cast-command : tie.Need-cast-command Inv-loop μ-loop
-cast-command c = search needs
-
-command-requires : tie.Need-command-requires Inv-loop μ-loop
-command-requires c κs = search needs
-
 add-i : tie.Need-add-i Inv-loop μ-loop
 add-i c = omega (arith, mul-whole-record-at (c .before .before .before .before .before .before .before) .fits)
-
-loop-less : tie.Need-loop-less Inv-loop μ-loop
-loop-less c = search needs
 
 loop-again : tie.Need-loop-again Inv-loop μ-loop
 loop-again c =
@@ -63,9 +48,6 @@ loop-again c =
     (call .ensures ∙ built-in .command-in-parts (withLogs (l .scalars) (l .counts) (l .clocks) (l .codes)) _ _ _ _ _ _ (l .inv .0)) in
     (k .0, k .1 ∙ l .inv .1)
 
-with-logs-requires : tie.Need-with-logs-requires Inv-loop μ-loop
-with-logs-requires c κs = search needs
-
 returns : tie.Need-returns Inv-loop μ-loop
 returns c =
     let l = c .before .before .loop in
@@ -82,14 +64,14 @@ run-from-spec =
     (tie.spec
     Inv-loop
     μ-loop
-    scalars-requires
+    (λ c κs. search needs)
     loop-holds
     mul-whole-record-at
-    whole-record-at-requires
-    cast-command
-    command-requires
+    (λ c κs. search needs)
+    (λ c. search needs)
+    (λ c κs. search needs)
     add-i
-    loop-less
+    (λ c. search needs)
     loop-again
-    with-logs-requires
+    (λ c κs. search needs)
     returns)

@@ -35,20 +35,8 @@ room c =
 abbrev stepped : tie.After-clear-log → tie.After-step
 stepped c = c .before .before .before .before
 
-sound-requires : tie.Need-sound-requires
-sound-requires c κs = search needs
-
-sound-requires-2 : tie.Need-sound-requires-2
-sound-requires-2 c κs = search needs
-
 returns : tie.Need-returns
 returns c = not-sound builtIn _ _ (sym (tested (c .before)) ∙ not-true _ (c .if1 .taken))
-
-step-requires : tie.Need-step-requires
-step-requires c κs = search needs
-
-clear-log-requires : tie.Need-clear-log-requires
-clear-log-requires c κs = search needs
 
 array-share-prefix-line-clocks : tie.Need-array-share-prefix-line-clocks
 array-share-prefix-line-clocks c = room (stepped (c .before .before .before .before .before)) .0
@@ -61,9 +49,6 @@ array-share-prefix-line-codes c = room (stepped (c .before .before .before .befo
 
 slice-aggregate-append-lines-2 : tie.Need-slice-aggregate-append-lines-2
 slice-aggregate-append-lines-2 c = part-length _ _ (room (stepped (c .before .before .before .before .before .before .before)) .1)
-
-append-lines-requires : tie.Need-append-lines-requires
-append-lines-requires c κs = search needs
 
 returns-2 : tie.Need-returns-2
 returns-2 c =
@@ -84,14 +69,14 @@ pub apply-spec : {M : Type 1} → statement M
 apply-spec =
     tie.close
     (tie.spec
-    sound-requires
-    sound-requires-2
+    (λ c κs. search needs)
+    (λ c κs. search needs)
     returns
-    step-requires
-    clear-log-requires
+    (λ c κs. search needs)
+    (λ c κs. search needs)
     array-share-prefix-line-clocks
     slice-aggregate-append-lines
     array-share-prefix-line-codes
     slice-aggregate-append-lines-2
-    append-lines-requires
+    (λ c κs. search needs)
     returns-2)

@@ -21,18 +21,6 @@ listed s Stay h = refl
 listed s NotListed (inl e) = absurd (omega arith)
 listed s NotListed (inr e) = absurd (omega arith)
 
-decide-requires : tie.Need-decide-requires
-decide-requires c κs = search needs
-
-enum-told : tie.Need-enum-told
-enum-told c = search needs
-
-refused-requires : tie.Need-refused-requires
-refused-requires c κs = search needs
-
-switched-requires : tie.Need-switched-requires
-switched-requires c κs = search needs
-
 returns : tie.Need-returns
 unfolding requestResult
 returns c = rw (← c .before .before .before .decide .ensures, c .before .enum-told .given .1) (c .refused .ensures)
@@ -46,4 +34,4 @@ returns-2 c =
 pub request-spec : {M : Type 1} → statement M
 request-spec =
     tie.close
-    (tie.spec decide-requires enum-told refused-requires switched-requires returns returns-2)
+    (tie.spec (λ c κs. search needs) (λ c. search needs) (λ c κs. search needs) (λ c κs. search needs) returns returns-2)

@@ -10,15 +10,6 @@ use Rattle.meter.proofs.step.Scalars.sample.Tie as tie
 watched-is : (c : tie.After-sample) → c .sample .result ≡ sampledPower (c .before .args .self .limiter) (c .before .args .power)
 watched-is c = c .sample .ensures ∙ search needs
 
-sample-requires : tie.Need-sample-requires
-sample-requires c κs = search needs
-
-next-held-requires : tie.Need-next-held-requires
-next-held-requires c κs = search needs
-
-accepted-requires : tie.Need-accepted-requires
-accepted-requires c κs = search needs
-
 returns : tie.Need-returns
 unfolding sampleResult
 returns c =
@@ -27,9 +18,6 @@ returns c =
     rw (← watched-is w, ← n .next-held .ensures)
     (c .accepted .ensures ∙ after-none _ (w .sample .result) (not-true _ (c .before .if1 .taken)))
 
-fired-requires : tie.Need-fired-requires
-fired-requires c κs = search needs
-
 returns-2 : tie.Need-returns-2
 unfolding sampleResult
 returns-2 c =
@@ -37,9 +25,6 @@ returns-2 c =
     let w = n .before .before in
     rw (← watched-is w, ← n .next-held .ensures)
     (c .fired .ensures ∙ after-over _ (w .sample .result) (not-false _ (c .before .before .if1 .left)) (c .before .if2 .taken))
-
-fired-requires-2 : tie.Need-fired-requires-2
-fired-requires-2 c κs = search needs
 
 returns-3 : tie.Need-returns-3
 unfolding sampleResult
@@ -53,11 +38,11 @@ pub sample-spec : {M : Type 1} → statement M
 sample-spec =
     tie.close
     (tie.spec
-    sample-requires
-    next-held-requires
-    accepted-requires
+    (λ c κs. search needs)
+    (λ c κs. search needs)
+    (λ c κs. search needs)
     returns
-    fired-requires
+    (λ c κs. search needs)
     returns-2
-    fired-requires-2
+    (λ c κs. search needs)
     returns-3)

@@ -14,23 +14,11 @@ use Rattle.meter.proofs.step.Scalars.set_limiter.Tie as tie
 not-negative : (c : tie.Else1) → leZ (pos 0) (c .before .args .threshold) ≡ true
 not-negative c = threshold-sign _ false (c .before .fits .threshold) (c .if1 .left)
 
-refused-requires : tie.Need-refused-requires
-refused-requires c κs = search needs
-
 returns : tie.Need-returns
 unfolding limiterResult
 returns c =
     let s = c .before .before in
     rw (threshold-sign _ true (s .fits .threshold) (c .before .if1 .taken)) (c .refused .ensures)
-
-is-duration-requires : tie.Need-is-duration-requires
-is-duration-requires c κs = search needs
-
-is-duration-requires-2 : tie.Need-is-duration-requires-2
-is-duration-requires-2 c κs = search needs
-
-refused-requires-2 : tie.Need-refused-requires-2
-refused-requires-2 c κs = search needs
 
 returns-2 : tie.Need-returns-2
 unfolding limiterResult
@@ -39,12 +27,6 @@ returns-2 c =
     let one = two .before in
     let d = not-true (one .is-duration .result && two .is-duration2 .result) (c .before .if2 .taken) in
     rw (not-negative (one .before), ← one .is-duration .ensures, ← two .is-duration2 .ensures, d) (c .refused2 .ensures)
-
-set-requires : tie.Need-set-requires
-set-requires c κs = search needs
-
-logged-requires : tie.Need-logged-requires
-logged-requires c κs = search needs
 
 returns-3 : tie.Need-returns-3
 unfolding limiterResult
@@ -60,12 +42,12 @@ pub set-limiter-spec : {M : Type 1} → statement M
 set-limiter-spec =
     tie.close
     (tie.spec
-    refused-requires
+    (λ c κs. search needs)
     returns
-    is-duration-requires
-    is-duration-requires-2
-    refused-requires-2
+    (λ c κs. search needs)
+    (λ c κs. search needs)
+    (λ c κs. search needs)
     returns-2
-    set-requires
-    logged-requires
+    (λ c κs. search needs)
+    (λ c κs. search needs)
     returns-3)

@@ -4,27 +4,9 @@ use Rattle.meter.specs.Machine.{modeResult}
 use Rattle.meter.proofs.step.Scalars.set_mode.Statement.{statement}
 use Rattle.meter.proofs.step.Scalars.set_mode.Tie as tie
 
-refused-requires : tie.Need-refused-requires
-refused-requires c κs = search needs
-
 returns : tie.Need-returns
 unfolding modeResult
 returns c = search tests
-
-cast-decide-mode : tie.Need-cast-decide-mode
-cast-decide-mode c = search needs
-
-decide-mode-requires : tie.Need-decide-mode-requires
-decide-mode-requires c κs = search needs
-
-cast-set-mode : tie.Need-cast-set-mode
-cast-set-mode c = search needs
-
-set-mode-requires : tie.Need-set-mode-requires
-set-mode-requires c κs = search needs
-
-switched-requires : tie.Need-switched-requires
-switched-requires c κs = search needs
 
 returns-2 : tie.Need-returns-2
 unfolding modeResult
@@ -34,11 +16,11 @@ pub set-mode-spec : {M : Type 1} → statement M
 set-mode-spec =
     tie.close
     (tie.spec
-    refused-requires
+    (λ c κs. search needs)
     returns
-    cast-decide-mode
-    decide-mode-requires
-    cast-set-mode
-    set-mode-requires
-    switched-requires
+    (λ c. search needs)
+    (λ c κs. search needs)
+    (λ c. search needs)
+    (λ c κs. search needs)
+    (λ c κs. search needs)
     returns-2)
