@@ -39,8 +39,22 @@ impl<const FAULT: u8, const VECTORS: bool> Machine<FAULT, VECTORS> {
         self.run_records(records);
     }
 
+    /// The record is tested once: an unsound one every call refuses, and a sound
+    /// one every call keeps sound.
     #[inline]
     fn run_records(&mut self, records: &[[u8; RECORD]]) {
+        if !self.sound() {
+            return;
+        }
+        for record in records {
+            let (kind, numbers) = decode(record);
+            let _ = self.command_sound(kind, numbers);
+        }
+    }
+
+    /// Runs every whole record of these bytes as a call that tests the record.
+    pub fn run_tested(&mut self, records: &[u8]) {
+        let (records, _) = records.as_chunks::<RECORD>();
         for record in records {
             let (kind, numbers) = decode(record);
             let _ = self.command(kind, numbers);

@@ -285,7 +285,20 @@ fn an_unsound_record_is_refused_by_every_call_and_the_writer() {
     }
     assert_eq!(meter.command(16, [0; 5]), Err(refusal::KIND));
     assert_eq!(meter.write_page(&mut []), Err(refusal::UNSOUND));
+    // A list tests it once, and its calls no more.
+    meter.run(&list());
+    meter.run_tested(&list());
     assert_eq!(meter, before);
+}
+
+/// A list leaves what its calls leave, each of which tests the record.
+#[test]
+fn a_list_runs_as_its_calls_do() {
+    let (mut once, mut each) = (example(), example());
+    once.run(&list());
+    each.run_tested(&list());
+    assert_eq!(once, each);
+    assert_ne!(once, example());
 }
 
 /// "the command's reading fails before the record is touched"

@@ -1,6 +1,6 @@
 //! The jobs that are measured.
 
-use crate::side::{Call, Page, Side};
+use crate::side::{Call, Calls, Page, Side};
 use pillar::PAGE;
 use plain::{LINES, Meter, refusal};
 
@@ -24,7 +24,7 @@ pub struct Item {
 }
 
 enum Job {
-    Calls(Vec<u8>),
+    Calls(Vec<u8>, Calls),
     Sound,
     Write,
     Read,
@@ -37,7 +37,7 @@ impl Item {
     pub fn run(&self, side: &dyn Side, rounds: u32) -> u64 {
         let mut page = self.page;
         let answer = match &self.job {
-            Job::Calls(records) => side.calls(&mut page, records, rounds),
+            Job::Calls(records, by) => side.calls(&mut page, records, rounds, *by),
             Job::Sound => side.sound(&page, rounds),
             Job::Write => side.write(&mut page, rounds),
             Job::Read => side.read(&mut page, rounds),
@@ -116,6 +116,14 @@ pub fn items() -> Vec<Item> {
         calls("request, full logs", full, &REQUESTS),
         calls("setting, full logs", full, &CHANGES),
         calls("clear log", full, &CLEARINGS),
+        methods("quiet sample by the method, empty logs", empty, &QUIET),
+        methods("quiet sample by the method, 11 lines a log", some, &QUIET),
+        methods("quiet sample by the method, full logs", full, &QUIET),
+        methods("firing sample by the method, full logs", hasty, &FIRING),
+        methods("event by the method, full logs", full, &EVENTS),
+        methods("request by the method, full logs", full, &REQUESTS),
+        methods("setting by the method, full logs", full, &CHANGES),
+        methods("clear log by the method", full, &CLEARINGS),
         short("soundness, empty logs", empty, Job::Sound),
         short("soundness, full logs", full, Job::Sound),
         short("page write, empty logs", empty, Job::Write),
@@ -154,12 +162,20 @@ fn mixed_list(length: usize) -> Item {
 }
 
 fn calls(name: &str, page: Page, pattern: &[Call]) -> Item {
+    many(name, page, pattern, Calls::OfList)
+}
+
+fn methods(name: &str, page: Page, pattern: &[Call]) -> Item {
+    many(name, page, pattern, Calls::ByMethod)
+}
+
+fn many(name: &str, page: Page, pattern: &[Call], by: Calls) -> Item {
     Item {
         name: String::from(name),
         operations: CALLS,
         rounds: LIST_TIMES,
         page,
-        job: Job::Calls(records(pattern.iter().cycle().take(CALLS))),
+        job: Job::Calls(records(pattern.iter().cycle().take(CALLS)), by),
     }
 }
 

@@ -1,7 +1,7 @@
 //! Safe functions over `libmeasure.a`: the proved core on a record in memory,
 //! many times over.
 
-use crate::side::Page;
+use crate::side::{Calls, Page};
 
 mod c {
     unsafe extern "C" {
@@ -11,6 +11,7 @@ mod c {
             records: *const u8,
             records_length: usize,
             rounds: u32,
+            by_method: u32,
         ) -> u32;
 
         pub fn measure_sound(page: *const u8, length: usize, rounds: u32) -> u32;
@@ -24,7 +25,7 @@ mod c {
 pub struct Measure;
 
 impl Measure {
-    pub fn calls(&self, page: &mut Page, records: &[u8], rounds: u32) -> u32 {
+    pub fn calls(&self, page: &mut Page, records: &[u8], rounds: u32, by: Calls) -> u32 {
         let (length, records_length) = (page.len(), records.len());
         // SAFETY: both pairs are those of live slices; the page's is exclusive, so
         // the two don't overlap.
@@ -35,6 +36,7 @@ impl Measure {
                 records.as_ptr(),
                 records_length,
                 rounds,
+                u32::from(by == Calls::ByMethod),
             )
         }
     }

@@ -1,7 +1,7 @@
 //! Plain, the reference implementation, with either test of the logs: the same
 //! loops as the proved core's.
 
-use crate::side::{Call, Page, Side};
+use crate::side::{Call, Calls, Page, Side};
 use plain::{Answer, Faultless};
 use std::hint::black_box;
 
@@ -15,13 +15,16 @@ impl<const VECTORS: bool> Side for Plain<VECTORS> {
         if VECTORS { "vectorised" } else { "idiomatic" }
     }
 
-    fn calls(&self, page: &mut Page, records: &[u8], rounds: u32) -> u32 {
+    fn calls(&self, page: &mut Page, records: &[u8], rounds: u32, by: Calls) -> u32 {
         let mut meter = match Faultless::<VECTORS>::read_page(page) {
             Ok(meter) => meter,
             Err(refusal) => return refusal.into(),
         };
         for _ in 0..rounds {
-            meter.run(black_box(records));
+            match by {
+                Calls::OfList => meter.run(black_box(records)),
+                Calls::ByMethod => meter.run_tested(black_box(records)),
+            }
         }
         number(meter.write_page(page))
     }

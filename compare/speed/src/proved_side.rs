@@ -1,7 +1,7 @@
 //! The proved core: its loops on a record in memory, and its C interface, whose
 //! state is the page.
 
-use crate::side::{Call, Page, Side};
+use crate::side::{Call, Calls, Page, Side};
 use pillar::Answer;
 use std::hint::black_box;
 
@@ -21,8 +21,8 @@ impl Side for Proved {
         "proved"
     }
 
-    fn calls(&self, page: &mut Page, records: &[u8], rounds: u32) -> u32 {
-        LOOPS.calls(page, records, rounds)
+    fn calls(&self, page: &mut Page, records: &[u8], rounds: u32, by: Calls) -> u32 {
+        LOOPS.calls(page, records, rounds, by)
     }
 
     fn sound(&self, page: &Page, rounds: u32) -> u32 {

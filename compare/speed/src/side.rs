@@ -10,6 +10,13 @@ pub struct Call {
     pub numbers: [u32; 5],
 }
 
+/// How a list's records are made calls.
+#[derive(Clone, Copy, PartialEq, Eq)]
+pub enum Calls {
+    OfList,
+    ByMethod,
+}
+
 /// The proved core first, then those that it is measured against.
 pub type Sides<'a> = [&'a dyn Side; SIDES];
 pub const SIDES: usize = 3;
@@ -20,8 +27,10 @@ pub trait Side: Sync {
     fn name(&self) -> &'static str;
 
     /// Reads the page, runs the records of a list as calls from record to
-    /// record in memory, the whole list in each round, and writes the page.
-    fn calls(&self, page: &mut Page, records: &[u8], rounds: u32) -> u32;
+    /// record in memory, the whole list in each round, and writes the page. The
+    /// calls are those of a list, which is tested once, or each is the public
+    /// one by kind and numbers, which tests the record.
+    fn calls(&self, page: &mut Page, records: &[u8], rounds: u32, by: Calls) -> u32;
 
     /// Reads the page and tests its record; answers how often it was sound.
     fn sound(&self, page: &Page, rounds: u32) -> u32;

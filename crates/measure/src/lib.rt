@@ -5,8 +5,10 @@
 ghost use mathlib.Core.Path.{_≡_};
 ghost use mathlib.Core.Bool.{cond};
 ghost use Rattle.page.specs.Layout.{readOf};
+ghost use Rattle.replay.specs.Replay.{recordsFrom, meterAfter};
 ghost use Rattle.measure.specs.Rounds.{callsAnswer, callsPage, soundRounds, writeRounds, writtenRounds, pageInRound, readRounds, pageAfterRounds};
 use calls::Answer;
+use meter::Meter;
 
 // What a round adds to a count.
 fn one_if(counts: bool) -> u32
@@ -15,9 +17,34 @@ fn one_if(counts: bool) -> u32
     if counts { 1 } else { 0 }
 }
 
+// The meter after the whole records of a list, each made a call by the method on the whole meter, which
+// tests it every time.
+fn run_by_method(before: Meter, records: &[u8]) -> Meter
+    ensures { λ r. ⌜ r ≡ meterAfter before (recordsFrom 0 (now (records .entry))) ⌝ }
+{
+    let mut meter = before;
+    let count = records.len() / replay::RECORD_LEN;
+    for i in 0..count {
+        let record = replay::record_at(records, i * replay::RECORD_LEN);
+        let outcome = replay::next(meter, record);
+        meter = outcome.meter;
+    }
+    meter
+}
+
+// The same, or, if `by_method` is 0, the records run as a list, which tests the meter once.
+fn run(meter: Meter, records: &[u8], by_method: u32) -> Meter
+    ensures { λ r. ⌜ r ≡ meterAfter meter (recordsFrom 0 (now (records .entry))) ⌝ }
+{
+    if by_method != 0 {
+        return run_by_method(meter, records);
+    }
+    replay::run_from(meter, records, 0)
+}
+
 // Runs the whole records of a list, `rounds` times, on the meter of a page, and writes the page.
 #[no_mangle]
-pub extern "C" fn measure_calls(page: &mut [u8], records: &[u8], rounds: u32) -> u32
+pub extern "C" fn measure_calls(page: &mut [u8], records: &[u8], rounds: u32, by_method: u32) -> u32
     ensures { λ r. ⌜ (r ≡ callsAnswer (now (page .entry)) (now (records .entry)) rounds) × (now (page .exit) ≡ callsPage (now (page .entry)) (now (records .entry)) rounds) ⌝ }
 {
     let read = page::read_page(page);
@@ -28,7 +55,7 @@ pub extern "C" fn measure_calls(page: &mut [u8], records: &[u8], rounds: u32) ->
     let mut meter = read.meter;
     let mut left = rounds;
     while 0 < left {
-        meter = replay::run_from(meter, records, 0);
+        meter = run(meter, records, by_method);
         left -= 1;
     }
     page::write_page(meter, page).number() as u32

@@ -10,7 +10,7 @@ use Rattle.calls.specs.Calls.{AllInRange}
 use Rattle.meter.specs.Laws.{LawsOf, Laws}
 use Rattle.meter.proofs.Values.{record-of-state, state-of-record}
 use Rattle.meter.proofs.Answers.{applied-answer, refused-same, commanded-same}
-use Rattle.meter.proofs.Tail.{in-parts, command-in-parts}
+use Rattle.meter.proofs.Tail.{in-parts, sound-in-parts, command-in-parts}
 use Rattle.meter.proofs.Preserved.{applied-sound, reached-sound}
 use Rattle.meter.proofs.Simulates.{simulates}
 
@@ -26,6 +26,7 @@ laws-of rows table =
       state-of-record = state-of-record rows;
       kept-sound = λ m c z i e. applied-sound rows table m c i z e;
       in-parts = in-parts rows;
+      sound-in-parts = sound-in-parts rows;
       command-in-parts = command-in-parts rows;
       answers = applied-answer rows;
       refused-same = refused-same rows;

@@ -29,7 +29,7 @@ use Rattle.meter.specs.declared.step.Step.{Step}
 use Rattle.meter.specs.State.{scalarsOf, withLogs}
 use Rattle.meter.specs.Sound.{soundScalars, soundMeter}
 use Rattle.meter.specs.Machine.{Change, Result, refusing, making, result, carriedOut, applied, performed, commanded}
-use Rattle.meter.specs.Parts.{inTwo, stepOf, outcomeOf, leftIn, appliedInParts, performedInParts, commandedInParts}
+use Rattle.meter.specs.Parts.{inTwo, stepOf, outcomeOf, leftIn, carriedOutInParts, appliedInParts, performedInParts, commandedInParts}
 
 -- ---- the lines of a step, as the code has them
 module _ (f : Line → ℕ) (xs : List Line) where
@@ -49,6 +49,10 @@ pub not-sound : (rows : List EventRow) (m : Meter) (c : Call) → soundMeter row
     → _≡_ {A = Outcome} (record { meter = m; answer = Refused 12 }) (appliedInParts rows m c)
 unfolding appliedInParts
 not-sound rows m c e = rw e
+
+pub is-sound : (rows : List EventRow) (m : Meter) (c : Call) → soundMeter rows m ≡ true → carriedOutInParts rows m c ≡ appliedInParts rows m c
+unfolding appliedInParts
+is-sound rows m c e = rw e
 
 -- ---- the record taken apart
 pub of-parts : (rows : List EventRow) (m : Meter) (c : Call) (s : Scalars) (o : Outcome) → s ≡ scalarsOf m
@@ -84,12 +88,11 @@ unfolding extendedArrays zeroedArrays counted extended uncounted zeroed
 nothing-owed m n = refl
 
 -- what the code leaves of the record: the arrays g₀ after the clear, and g after the lines
-pub finished : (rows : List EventRow) (m : Meter) (c : Call) → soundMeter rows m ≡ true
-    → (s : Step) (g₀ g : Logs) → s ≡ stepOf (scalarsOf m) (result rows (scalarsOf m) c) → g₀ ≡ zeroedArrays (s .cleared) (m .logs)
+pub finished : (rows : List EventRow) (m : Meter) (c : Call) (s : Step) (g₀ g : Logs)
+    → s ≡ stepOf (scalarsOf m) (result rows (scalarsOf m) c) → g₀ ≡ zeroedArrays (s .cleared) (m .logs)
     → g ≡ extendedArrays (s .log) (take (s .count) (s .clocks)) (take (s .count) (s .codes)) g₀
-    → outcomeOf (record { scalars = s .scalars; answer = s .answer }) (g .counts) (g .clocks) (g .codes) ≡ appliedInParts rows m c
-unfolding appliedInParts
-finished rows m c e s g₀ g steps clears adds = rw (adds, clears, steps, e) (go (result rows (scalarsOf m) c))
+    → outcomeOf (record { scalars = s .scalars; answer = s .answer }) (g .counts) (g .clocks) (g .codes) ≡ carriedOutInParts rows m c
+finished rows m c s g₀ g steps clears adds = rw (adds, clears, steps) (go (result rows (scalarsOf m) c))
   where
     go : (r : Result) → leftBy m (stepOf (scalarsOf m) r) ≡ leftIn m r
     go (refusing n) = nothing-owed m n
@@ -97,27 +100,33 @@ finished rows m c e s g₀ g steps clears adds = rw (adds, clears, steps, e) (go
 
 -- ---- of arrays of their types' lengths
 module _ (rows : List EventRow) (m : Meter) where
+  laid-out : Sized (m .logs) → soundMeter rows m ≡ true → (r : Result) → leftIn m r ≡ carriedOut m r
+  unfolding soundMeter
+  laid-out z e (refusing n) = refl
+  laid-out z e (making k) = rw (logs-after rows (m .logs) z (and-right (soundScalars (scalarsOf m)) (soundLogs rows (m .logs)) e) k)
+
+  pub sound-in-parts : (c : Call) → Sized (m .logs) → soundMeter rows m ≡ true → carriedOutInParts rows m c ≡ applied rows m c
+  unfolding applied
+  sound-in-parts c z e = rw e (laid-out z e (result rows (scalarsOf m) c))
+
   pub in-parts : (c : Call) → Sized (m .logs) → appliedInParts rows m c ≡ applied rows m c
-  unfolding appliedInParts applied soundMeter
+  unfolding appliedInParts applied
   in-parts c z = go (soundMeter rows m) refl
     where
-      same : (r : Result) → soundLogs rows (m .logs) ≡ true → leftIn m r ≡ carriedOut m r
-      same (refusing n) e = refl
-      same (making k) e = rw (logs-after rows (m .logs) z e k)
-
       go : (b : Bool) → soundMeter rows m ≡ b
-          → cond b (leftIn m (result rows (scalarsOf m) c)) (record { meter = m; answer = Refused 12 })
+          → cond b (carriedOutInParts rows m c) (record { meter = m; answer = Refused 12 })
           ≡ cond b (carriedOut m (result rows (scalarsOf m) c)) (record { meter = m; answer = Refused 12 })
-      go true e = same (result rows (scalarsOf m) c) (and-right (soundScalars (scalarsOf m)) (soundLogs rows (m .logs)) e)
+      go true e = laid-out z e (result rows (scalarsOf m) c)
       go false e = refl
 
-  performed-in-parts : (p : Parsed) → Sized (m .logs) → performedInParts rows m p ≡ performed rows m p
-  performed-in-parts (Ok c) z = in-parts c z
-  performed-in-parts NoKind z = refl
+  performed-in-parts : (p : Parsed) → Sized (m .logs) → soundMeter rows m ≡ true → performedInParts rows m p ≡ performed rows m p
+  performed-in-parts (Ok c) z e = sound-in-parts c z e
+  performed-in-parts NoKind z e = refl
 
-  pub command-in-parts : (k n1 n2 n3 n4 n5 : ℕ) → Sized (m .logs) → commandedInParts rows m k n1 n2 n3 n4 n5 ≡ commanded rows m k n1 n2 n3 n4 n5
+  pub command-in-parts : (k n1 n2 n3 n4 n5 : ℕ) → Sized (m .logs) → soundMeter rows m ≡ true
+      → commandedInParts rows m k n1 n2 n3 n4 n5 ≡ commanded rows m k n1 n2 n3 n4 n5
   unfolding commandedInParts commanded
-  command-in-parts k n1 n2 n3 n4 n5 z = performed-in-parts (callOf k n1 n2 n3 n4 n5) z
+  command-in-parts k n1 n2 n3 n4 n5 z e = performed-in-parts (callOf k n1 n2 n3 n4 n5) z e
 
 -- ---- the parts of the two arrays, as long as the count says
 pub lines-room : (s : Step) (t : Scalars) (r : Result) → s ≡ stepOf t r → (s .count ≤ length (s .clocks)) × (s .count ≤ length (s .codes))

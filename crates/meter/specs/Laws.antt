@@ -16,7 +16,7 @@ use Rattle.meter.specs.declared.Meter.{Meter}
 use Rattle.meter.specs.State.{State, stateOf, recordOf}
 use Rattle.meter.specs.Sound.{soundMeter, soundState}
 use Rattle.meter.specs.Machine.{applied, commanded, recordAfter}
-use Rattle.meter.specs.Parts.{appliedInParts, commandedInParts}
+use Rattle.meter.specs.Parts.{carriedOutInParts, appliedInParts, commandedInParts}
 use Rattle.meter.specs.Settings.{Settings}
 use Rattle.meter.specs.Fresh.{freshState}
 use Rattle.meter.specs.Holding.{holding}
@@ -36,7 +36,9 @@ pub record LawsOf (rows : List EventRow) : Type 0 where
       → soundMeter rows (applied rows m c .meter) ≡ true
   -- of arrays of their types' lengths, a call on a record in parts is a call on the record
   pub in-parts : (m : Meter) (c : Call) → Sized (m .logs) → appliedInParts rows m c ≡ applied rows m c
-  pub command-in-parts : (m : Meter) (k n1 n2 n3 n4 n5 : ℕ) → Sized (m .logs)
+  -- and where the record is sound, so is one that does not test it, and a command
+  pub sound-in-parts : (m : Meter) (c : Call) → Sized (m .logs) → soundMeter rows m ≡ true → carriedOutInParts rows m c ≡ applied rows m c
+  pub command-in-parts : (m : Meter) (k n1 n2 n3 n4 n5 : ℕ) → Sized (m .logs) → soundMeter rows m ≡ true
       → commandedInParts rows m k n1 n2 n3 n4 n5 ≡ commanded rows m k n1 n2 n3 n4 n5
   -- for a sound record the answer is the one that the account's rule gives: each number comes under its condition only
   pub answers : (m : Meter) (c : Call) → soundMeter rows m ≡ true

@@ -57,15 +57,19 @@ leftIn m (making k) =
     let g = arraysAfter (m .logs) k in
     record { meter = withLogs (k .scalars) (g .counts) (g .clocks) (g .codes); answer = Accepted }
 
--- a call on a record in parts; of arrays of their types' lengths it is the machine's (see Laws)
-unfoldable pub appliedInParts : List EventRow → Meter → Call → Outcome
-appliedInParts rows m c = cond (soundMeter rows m) (leftIn m (result rows (scalarsOf m) c)) (record { meter = m; answer = Refused 12 })
+-- a call carried out on a record in parts, whether it is sound or not
+abbrev pub carriedOutInParts : List EventRow → Meter → Call → Outcome
+carriedOutInParts rows m c = leftIn m (result rows (scalarsOf m) c)
 
--- what a command names, on a record in parts: 'kind | 13 | not 1–15'
+-- a call on a record in parts, which is tested; of arrays of their types' lengths it is the machine's (see Laws)
+unfoldable pub appliedInParts : List EventRow → Meter → Call → Outcome
+appliedInParts rows m c = cond (soundMeter rows m) (carriedOutInParts rows m c) (record { meter = m; answer = Refused 12 })
+
+-- what a command names, carried out: 'kind | 13 | not 1–15'
 abbrev pub performedInParts : List EventRow → Meter → Parsed → Outcome
-performedInParts rows m (Ok c) = appliedInParts rows m c
+performedInParts rows m (Ok c) = carriedOutInParts rows m c
 performedInParts rows m NoKind = record { meter = m; answer = Refused 13 }
 
--- a command of a kind and five numbers on a record in parts
+-- a command of a kind and five numbers carried out on a record in parts, whether it is sound or not
 unfoldable pub commandedInParts : List EventRow → Meter → ℕ → ℕ → ℕ → ℕ → ℕ → ℕ → Outcome
 commandedInParts rows m k n1 n2 n3 n4 n5 = performedInParts rows m (callOf k n1 n2 n3 n4 n5)

@@ -2,11 +2,14 @@
 use mathlib.Core.Path.{_≡_, refl, sym, _∙_}
 use mathlib.Core.Bool.{Bool, true, false, _&&_, and-true}
 use mathlib.Core.List.{List}
-use Prim.Native.Nat.{ℕ, _≤_, _<_, _^_}
+use Prim.Native.Nat.{ℕ, suc, _-_, _≤_, _<_, _^_}
 use native.Mathlib.Omega.{arith}
 use lib.Dec.{T, leb, ltb}
 use lib.IntN.{ℤ, pos, negsuc, natAbs}
 use lib.Signed.{nonNeg, leZ}
+use mir.Syntax.{w32}
+use mir.Val.{Fits, SFits, ofZ, toZ}
+use mir.Facts.{toZ-pos}
 use borrow.Author.Tests.{leb-true, le-leb}
 use Rattle.base.proofs.Bools.{and-left, and-right}
 use Rattle.codec.specs.Format.{numAt}
@@ -23,6 +26,21 @@ use Rattle.page.specs.Layout.{layout, start, meterIn, isRecord, holdsSou
 pub threshold-held : (z : ℤ) → isThreshold z ≡ true → T (nonNeg z) × (natAbs z < 256 ^ 4)
 threshold-held (pos n) e = (tt, omega (arith, leb-true n 2147483647 (and-right (leZ (pos 0) (pos n)) _ e)))
 threshold-held (negsuc n) e = let z : _≡_ {A = ℕ} 0 1 = cc in absurd (omega arith)
+
+-- an `i32` as its number of watts: as it is, or, if it is negative, one more than its bits turned
+pub as-it-is : (z : ℤ) → SFits w32 z → leZ (pos 0) z ≡ true → T (nonNeg z) × Fits w32 (natAbs z)
+as-it-is (pos n) f e = (tt, record { fits = omega (arith, f .sfits) })
+as-it-is (negsuc n) f e = let z : _≡_ {A = ℕ} 0 1 = cc in absurd (omega arith)
+
+pub turned : (z : ℤ) → SFits w32 z → leZ (pos 0) z ≡ false
+    → (toZ w32 (4294967295 - ofZ w32 z) ≡ pos (natAbs z - 1)) × ((0 < natAbs z) × (natAbs z ≤ 2147483648))
+turned (pos n) f e =
+    let both : true ≡ false = sym (le-leb 0 n (omega arith)) ∙ e in
+    let z : _≡_ {A = ℕ} 0 1 = cc in absurd (omega arith)
+turned (negsuc n) f e =
+    let k : 4294967295 - (4294967296 - suc n) ≡ n = omega (arith, f .sfits) in
+    let one : suc n - 1 ≡ n = omega arith in
+    (rw (k, one) (toZ-pos w32 (f .sfits)), (omega arith, omega (arith, f .sfits)))
 
 -- sound scalars have a threshold of its range
 pub threshold-scalars : (s : Scalars) → soundScalars s ≡ true → isThreshold (s .limiter .threshold) ≡ true

@@ -2,17 +2,18 @@
 -- writer's.
 use mathlib.Core.Path.{_≡_, sym, ap, _∙_}
 use mathlib.Core.List.{List}
-use Prim.Native.Nat.{ℕ}
+use Prim.Native.Nat.{ℕ, _^_, _<_}
 use Rattle.calls.specs.declared.Answer.{Answer}
 use Rattle.calls.specs.declared.Answer.the-variants.{Accepted, Refused}
 use Rattle.calls.specs.declared.Call.{Call}
 use Rattle.calls.specs.declared.Parsed.{Parsed}
 use Rattle.calls.specs.declared.Parsed.the-variants.{Ok, NoKind}
-use Rattle.calls.specs.Calls.{answerNumber}
+use Rattle.calls.specs.Calls.{answerNumber, callOf, InRange}
 use Rattle.events.specs.Table.{builtIn}
 use Rattle.meter.specs.declared.Outcome.{Outcome}
 use Rattle.meter.specs.Machine.{applied}
 use Rattle.page.specs.Layout.{writeAnswer, written, readOf}
+use Rattle.replay.proofs.Ranges.{ParsedInRange, call-range}
 use Rattle.pillar.specs.Interface.{outcomeOn, keptNumber, keptPage, performedNumber, performedPage}
 
 module _ (o : Outcome) (page : List ℕ) where
@@ -43,3 +44,10 @@ module _ (page : List ℕ) (p : Parsed) where
           rw (names, accepted) (kept .0 ∙ ap (λ (o : Outcome). keptNumber o page) outcome),
           rw (names, accepted) (kept .1 ∙ ap (λ (o : Outcome). keptPage o page) outcome),
         )
+
+-- the numbers of a call that a kind and numbers of 32 bits name are values of their types
+pub named-range : (p : Parsed) (c : Call) (kind n1 n2 n3 n4 n5 : ℕ) → p ≡ callOf kind n1 n2 n3 n4 n5 → p ≡ Ok c
+    → n1 < 256 ^ 4 → n2 < 256 ^ 4 → n3 < 256 ^ 4 → InRange c
+named-range p c kind n1 n2 n3 n4 n5 read names h1 h2 h3 =
+    let range : ParsedInRange p = rw read (call-range kind n1 n2 n3 n4 n5 h1 h2 h3) in
+    rw names at range

@@ -194,6 +194,13 @@ from-page s bytes e =
       sized = rw same (held-sized (meterIn s) (roundtrip.layout-lawful .held-read s start bytes valid));
     }
 
+-- such a record as the reader hands it back
+pub read-record : (page : List ℕ) (read : Outcome) → Bytes page → read ≡ readOf page → read .answer ≡ Accepted
+    → (soundMeter builtIn (read .meter) ≡ true) × Sized (read .meter .logs)
+read-record page read bytes reads e =
+    let k = from-page page bytes (ap (λ (o : Outcome). o .answer) (sym reads) ∙ e) in
+    rw reads (k .sound, k .sized)
+
 -- ---- calls from an accepted fresh
 
 -- one call more, behind others

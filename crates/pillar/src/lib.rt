@@ -76,7 +76,20 @@ pub extern "C" fn pillar_call(
     if let Answer::Refused(number) = answer {
         return number as u32;
     }
-    keep(read.meter.apply(call), page)
+    // The reader takes sound records alone, and a call keeps a sound record sound: neither the call nor
+    // the writer tests it once more.
+    let meter = read.meter;
+    let before = meter.scalars();
+    let mut counts = meter.logs.counts;
+    let mut clocks = meter.logs.clocks;
+    let mut codes = meter.logs.codes;
+    let called = before.apply_sound(&mut counts, &mut clocks, &mut codes, call);
+    let refusal = called.answer;
+    if let Answer::Refused(number) = refusal {
+        return number as u32;
+    }
+    let after = called.scalars;
+    page::write_sound(after, &counts, &clocks, &codes, page).number() as u32
 }
 
 // Runs a whole list of 21-byte records, the first of which is fresh, and writes the page of its

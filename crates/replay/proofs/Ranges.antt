@@ -30,7 +30,7 @@ signed-range n h = go (ltb n 2147483648) refl
     go false e = (le-leb (4294967295 - n) 2147483647 (omega (arith, ltb-false n 2147483648 e)), refl)
 
 -- what is named, if anything, is in range
-abbrev ParsedInRange : Parsed → Type 0
+abbrev pub ParsedInRange : Parsed → Type 0
 ParsedInRange (Ok c) = InRange c
 ParsedInRange NoKind = Unit
 
@@ -38,32 +38,36 @@ this-or : (b : Bool) (c : Call) (rest : Parsed) → InRange c → ParsedInRange 
 this-or true c rest i r = i
 this-or false c rest i r = r
 
+-- of any kind and any numbers of 32 bits
+pub call-range : (k n1 n2 n3 n4 n5 : ℕ) → n1 < 256 ^ 4 → n2 < 256 ^ 4 → n3 < 256 ^ 4 → ParsedInRange (callOf k n1 n2 n3 n4 n5)
+unfolding callOf
+call-range k n1 n2 n3 n4 n5 h1 h2 h3 =
+    let n = word n1 h1 in
+    let z = signed-range n1 h1 in
+    let limits : InRange (SetLimiter (signedOf n1) n2 n3) = (z, (word n2 h2, word n3 h3)) in
+    this-or (eqb k 1) (Sample (signedOf n1)) _ z
+    (this-or (eqb k 2) RemoteDisconnect _ tt
+    (this-or (eqb k 3) RemoteReconnect _ tt
+    (this-or (eqb k 4) ManualDisconnect _ tt
+    (this-or (eqb k 5) ManualReconnect _ tt
+    (this-or (eqb k 6) (SetMode n1) _ n
+    (this-or (eqb k 7) (SetLimiter (signedOf n1) n2 n3) _ limits
+    (this-or (eqb k 8) (SetClock n1) _ n
+    (this-or (eqb k 9) (Event n1) _ n
+    (this-or (eqb k 10) (SetAlarmFilter n1) _ n
+    (this-or (eqb k 11) (SetErrorFilter n1) _ n
+    (this-or (eqb k 12) (ClearAlarms n1) _ n
+    (this-or (eqb k 13) (ClearErrors n1) _ n
+    (this-or (eqb k 14) (ClearLog n1) _ n
+    (this-or (eqb k 15) (Script n1) _ n
+    tt))))))))))))))
+
 module _ (r : Record) (h : recordFormat .Holds r) where
   pub settings-range : SettingsInRange (settingsIn r)
   settings-range = record { threshold = signed-range (r .n2) (h .0 .1 .1 .0); clock = word (r .n5) (h .0 .1 .1 .1 .1 .1) }
 
-  parsed-range : ParsedInRange (parsedIn r)
-  unfolding callOf
-  parsed-range =
-      let n = word (r .n1) (h .0 .1 .0) in
-      let z = signed-range (r .n1) (h .0 .1 .0) in
-      let limits : InRange (SetLimiter (signedOf (r .n1)) (r .n2) (r .n3)) = (z, (word (r .n2) (h .0 .1 .1 .0), word (r .n3) (h .0 .1 .1 .1 .0))) in
-      this-or (eqb (r .kind) 1) (Sample (signedOf (r .n1))) _ z
-      (this-or (eqb (r .kind) 2) RemoteDisconnect _ tt
-      (this-or (eqb (r .kind) 3) RemoteReconnect _ tt
-      (this-or (eqb (r .kind) 4) ManualDisconnect _ tt
-      (this-or (eqb (r .kind) 5) ManualReconnect _ tt
-      (this-or (eqb (r .kind) 6) (SetMode (r .n1)) _ n
-      (this-or (eqb (r .kind) 7) (SetLimiter (signedOf (r .n1)) (r .n2) (r .n3)) _ limits
-      (this-or (eqb (r .kind) 8) (SetClock (r .n1)) _ n
-      (this-or (eqb (r .kind) 9) (Event (r .n1)) _ n
-      (this-or (eqb (r .kind) 10) (SetAlarmFilter (r .n1)) _ n
-      (this-or (eqb (r .kind) 11) (SetErrorFilter (r .n1)) _ n
-      (this-or (eqb (r .kind) 12) (ClearAlarms (r .n1)) _ n
-      (this-or (eqb (r .kind) 13) (ClearErrors (r .n1)) _ n
-      (this-or (eqb (r .kind) 14) (ClearLog (r .n1)) _ n
-      (this-or (eqb (r .kind) 15) (Script (r .n1)) _ n
-      tt))))))))))))))
+  pub parsed-range : ParsedInRange (parsedIn r)
+  parsed-range = call-range (r .kind) (r .n1) (r .n2) (r .n3) (r .n4) (r .n5) (h .0 .1 .0) (h .0 .1 .1 .0) (h .0 .1 .1 .1 .0)
 
 with-call : (p : Parsed) (cs : List Call) → ParsedInRange p → AllInRange cs → AllInRange (withCall p cs)
 with-call (Ok c) cs i is = (i, is)

@@ -16,12 +16,13 @@ use Rattle.calls.specs.declared.Answer.{Answer}
 use Rattle.calls.specs.declared.Answer.the-variants as answer
 use Rattle.calls.specs.declared.Parsed.{Parsed}
 use Rattle.calls.specs.declared.Parsed.the-variants.{Ok, NoKind}
+use Rattle.calls.specs.declared.Call.{Call}
 use Rattle.calls.specs.Calls.{callOf, AllInRange}
 use Rattle.meter.specs.declared.Meter.{Meter}
 use Rattle.meter.specs.declared.Outcome.{Outcome}
 use Rattle.meter.specs.State.{recordOf}
 use Rattle.meter.specs.Sound.{soundMeter}
-use Rattle.meter.specs.Machine.{performed, commanded, recordAfter}
+use Rattle.meter.specs.Machine.{applied, performed, commanded, recordAfter}
 use Rattle.meter.specs.Settings.{Settings}
 use Rattle.meter.specs.Fresh.{freshState}
 use Rattle.meter.specs.Holding.{holding}
@@ -37,7 +38,7 @@ use Rattle.replay.specs.declared.Replayed.the-variants.{Written, Refused
 use Rattle.replay.specs.Input.{recordFormat}
 use Rattle.replay.specs.Replay.{recordLength, firstIn, recordsFrom, laterIn, settingsIn, parsedIn, withCall, callsIn, startOf, nextOf, meterAfter, lastMeter, accountIn, unlessRefused, endOf, replayAnswer, bufferAfter, replayed}
 use Rattle.replay.proofs.Records.{record-lawful}
-use Rattle.replay.proofs.Ranges.{settings-range, calls-range}
+use Rattle.replay.proofs.Ranges.{ParsedInRange, settings-range, parsed-range, calls-range}
 
 -- ---- a loop over the records: the one at i, then those from i + 1 on, until there are no more
 
@@ -71,12 +72,37 @@ commanded-sized : (m : Meter) (k n1 n2 n3 n4 n5 : ℕ) → Sized (m .logs) → S
 unfolding commanded
 commanded-sized m k n1 n2 n3 n4 n5 z = performed-sized m (callOf k n1 n2 n3 n4 n5) z
 
--- a turn of it: what the record at i makes of the meter, and that the records behind it are left
-pub next-turn : (s : List ℕ) (i : ℕ) (m : Meter) (r : Record) (o : Outcome) → i < length s / 21 → Sized (m .logs)
-    → r ≡ recordFormat .dec s (i * 21) → o ≡ nextOf m r
-    → Sized (o .meter .logs) × (meterAfter (o .meter) (recordsFrom (i + 1) s) ≡ meterAfter m (recordsFrom i s))
-next-turn s i m r o h z read next =
-    (rw next (commanded-sized m _ _ _ _ _ _ z), rw (next, read, records-next s i h) (sym (meter-next m (recordFormat .dec s (i * 21)) (recordsFrom (i + 1) s))))
+-- a sound meter stays sound, whatever the record
+next-sound : (m : Meter) (r : Record) → recordFormat .Holds r → Sized (m .logs) → soundMeter builtIn m ≡ true
+    → soundMeter builtIn (nextOf m r .meter) ≡ true
+unfolding recordAfter callsIn
+next-sound m r h z e = ap (soundMeter builtIn) (sym (meter-next m r [])) ∙ go (parsedIn r) (parsed-range r h)
+  where
+    go : (p : Parsed) → ParsedInRange p → soundMeter builtIn (recordAfter builtIn m (withCall p [])) ≡ true
+    go (Ok c) i = built-in .kept-sound m c z i e
+    go NoKind i = e
+
+-- a turn of it: the record at i is behind it, and those from i + 1 on are left
+module _ (s : List ℕ) (i : ℕ) (m : Meter) (r : Record) (o : Outcome) (h : i < length s / 21) where
+  pub after-record : r ≡ recordFormat .dec s (i * 21) → o ≡ nextOf m r → meterAfter (o .meter) (recordsFrom (i + 1) s) ≡ meterAfter m (recordsFrom i s)
+  after-record read next = rw (next, read, records-next s i h) (sym (meter-next m (recordFormat .dec s (i * 21)) (recordsFrom (i + 1) s)))
+
+  -- and a sound meter is one still
+  pub next-turn : r ≡ recordFormat .dec s (i * 21) → o ≡ nextOf m r → Bytes s → Sized (m .logs) × (soundMeter builtIn m ≡ true)
+      → (Sized (o .meter .logs) × (soundMeter builtIn (o .meter) ≡ true))
+      × (meterAfter (o .meter) (recordsFrom (i + 1) s) ≡ meterAfter m (recordsFrom i s))
+  next-turn read next bytes (z, e) =
+      let sound = next-sound m (recordFormat .dec s (i * 21)) (record-lawful .held-read s (i * 21) bytes refl) z e in
+      ((rw next (commanded-sized m _ _ _ _ _ _ z), rw (next, read) sound), after-record read next)
+
+-- a meter that is not sound stays as it is, whatever the calls
+refused-all : (m : Meter) (calls : List Call) → soundMeter builtIn m ≡ false → recordAfter builtIn m calls ≡ m
+unfolding recordAfter applied
+refused-all m [] e = refl
+refused-all m (c ∷ calls) e = rw e (refused-all m calls e)
+
+pub not-sound-run : (m : Meter) (rs : List Record) → soundMeter builtIn m ≡ false → m ≡ meterAfter m rs
+not-sound-run m rs e = sym (refused-all m (callsIn rs) e)
 
 pub last-turn : (s : List ℕ) (i : ℕ) (m : Meter) → length s / 21 ≤ i → meterAfter m (recordsFrom i s) ≡ m
 unfolding recordAfter callsIn

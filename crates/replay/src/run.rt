@@ -35,11 +35,15 @@ pub fn next(meter: Meter, later: Record) -> Outcome
     )
 }
 
-// The meter after the whole records from number `first` on, counted from 0. The record is kept in
-// parts while they run: a call that takes it by value copies it.
+// The meter after the whole records from number `first` on, counted from 0. It is tested once: one that
+// is not sound every call refuses, and a sound one every call keeps sound. It is kept in parts while
+// they run: a call that takes it by value copies it.
 pub fn run_from(before: Meter, records: &[u8], first: usize) -> Meter
     ensures { λ r. ⌜ r ≡ meterAfter before (recordsFrom first (now (records .entry))) ⌝ }
 {
+    if !before.sound() {
+        return before;
+    }
     let mut scalars = before.scalars();
     let mut counts = before.logs.counts;
     let mut clocks = before.logs.clocks;
@@ -47,7 +51,7 @@ pub fn run_from(before: Meter, records: &[u8], first: usize) -> Meter
     let count = records.len() / RECORD_LEN;
     for i in first..count {
         let record = input::whole_record_at(records, i * RECORD_LEN);
-        let answered = scalars.command(
+        let answered = scalars.command_sound(
             &mut counts,
             &mut clocks,
             &mut codes,

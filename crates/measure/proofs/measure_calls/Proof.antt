@@ -8,10 +8,11 @@ use Rattle.measure.proofs.measure_calls.Statement.{statement}
 use Rattle.measure.proofs.measure_calls.Tie as tie
 
 abbrev Inv-loop : tie.InvT-loop
-Inv-loop page records rounds meter₀ left₀ meter left = roundsFrom left meter (recordsFrom 0 records) ≡ roundsFrom rounds meter₀ (recordsFrom 0 records)
+Inv-loop page records rounds by-method meter₀ left₀ meter left =
+    roundsFrom left meter (recordsFrom 0 records) ≡ roundsFrom rounds meter₀ (recordsFrom 0 records)
 
 abbrev μ-loop : tie.MeasureT-loop
-μ-loop page records rounds meter₀ left₀ meter left = left
+μ-loop page records rounds by-method meter₀ left₀ meter left = left
 
 returns : tie.Need-returns Inv-loop μ-loop
 returns c = rounds-refused _ _ _ _ (c .before .before .before .read-page .ensures .0) _ (c .before .answer .given .1)
@@ -22,7 +23,7 @@ loop-holds c = refl
 loop-again : tie.Need-loop-again Inv-loop μ-loop
 loop-again c =
     let l = c .before .before .loop in
-    rw (c .run-from .ensures) (next-round (l .left) (l .meter) _ (search needs)) ∙ l .inv
+    rw (c .run .ensures) (next-round (l .left) (l .meter) _ (search needs)) ∙ l .inv
 
 returns-2 : tie.Need-returns-2 Inv-loop μ-loop
 returns-2 c =
