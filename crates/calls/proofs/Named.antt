@@ -1,11 +1,12 @@
 -- The call that a kind names is of that kind, and the kinds from 1 to 15 name one.
 use mathlib.Core.Path.{_≡_, refl, sym, _∙_}
-use mathlib.Core.Bool.{Bool, true, false, cond, and-false, false≢true}
+use mathlib.Core.Bool.{true, false, cond, and-false, false≢true}
 use Prim.Native.Nat.{ℕ, zero, suc, _≤_}
 use native.Mathlib.Omega.{arith}
 use lib.Dec.{eqb}
 use borrow.Author.Tests.{eqb-true, eqb-false, lt-leb}
 use Rattle.base.specs.Tests.{within}
+use Rattle.base.proofs.Bools.{by-test}
 use Rattle.calls.specs.declared.Call.{Call}
 use Rattle.calls.specs.declared.Parsed.{Parsed}
 use Rattle.calls.specs.declared.Parsed.the-variants.{Ok, NoKind}
@@ -20,11 +21,8 @@ Read k NoKind = within 1 15 k ≡ false
 -- one kind of the list: it is this one, or a later one
 or-later : (k j : ℕ) (x : Call) (rest : Parsed) → kindOf x ≡ j → within 1 15 j ≡ true → (suc j ≤ k → Read k rest) → j ≤ k
     → Read k (cond (eqb k j) (Ok x) rest)
-or-later k j x rest d w later h = go (eqb k j) refl
-  where
-    go : (b : Bool) → eqb k j ≡ b → Read k (cond b (Ok x) rest)
-    go true q = rw (eqb-true k j q) (d, w)
-    go false q = later (omega (arith, eqb-false k j q))
+or-later k j x rest d w later h =
+    by-test (eqb k j) (λ q. rw (q, eqb-true k j q) (d, w)) (λ q. rw q (later (omega (arith, eqb-false k j q))))
 
 from-one : (k n1 n2 n3 n4 n5 : ℕ) → 1 ≤ k → Read k (callOf k n1 n2 n3 n4 n5)
 unfolding callOf
