@@ -1,6 +1,6 @@
 -- Each format is lawful, and formats put together from lawful ones are.
 use mathlib.Core.Path.{_≡_, refl, sym, ap, _∙_, subst, subst⁻¹}
-use mathlib.Core.Bool.{Bool, true, false, cond}
+use mathlib.Core.Bool.{Bool, true, false, _&&_, cond}
 use mathlib.Core.List.{List, [], _∷_, _++_, append-assoc, flatMap}
 use Prim.Native.Nat.{ℕ, zero, suc, _+_, _*_, _<_, _≤_}
 use native.Mathlib.Nat.{suc-mul, zero-mul, add-comm, mod-eq-of-lt}
@@ -67,37 +67,29 @@ flag-lawful = record {
 }
 
 -- x and then y were written behind p: a read at x sees y as what follows, and a read behind x sees x as what went before
-at-first : {B : Type 0} (f : List ℕ → ℕ → B) (p x y r : List ℕ) → f (p ++ ((x ++ y) ++ r)) (length p) ≡ f (p ++ (x ++ (y ++ r))) (length p)
-at-first f p x y r = ap (λ (l : List ℕ). f (p ++ l) (length p)) (append-assoc x y r)
-
-at-second : {B : Type 0} (f : List ℕ → ℕ → B) (p x y r : List ℕ) {w : ℕ} → length x ≡ w
-    → f (p ++ ((x ++ y) ++ r)) (length p + w) ≡ f ((p ++ x) ++ (y ++ r)) (length (p ++ x))
-at-second f p x y r e = rw (append-assoc x y r, ← append-assoc p x (y ++ r), ← e, ← length-append p x)
+both-read : {A B C : Type 0} (f : List ℕ → ℕ → A) (g : List ℕ → ℕ → B) (h : A → B → C) (p x y r : List ℕ) {w : ℕ} → length x ≡ w → {a : A} {b : B}
+    → f (p ++ (x ++ (y ++ r))) (length p) ≡ a → g ((p ++ x) ++ (y ++ r)) (length (p ++ x)) ≡ b
+    → h (f (p ++ ((x ++ y) ++ r)) (length p)) (g (p ++ ((x ++ y) ++ r)) (length p + w)) ≡ h a b
+both-read f g h p x y r e one two =
+    rw (append-assoc x y r, one, ← append-assoc p x (y ++ r), ← e, ← length-append p x, two)
 
 pub pair-lawful : {A B : Type 0} {F : Format A} {G : Format B} → Lawful F → Lawful G → Lawful (F ⊗ G)
 pair-lawful {F = F} {G = G} LF LG = record {
   length-enc = λ v h. length-append (F .enc (v .0)) (G .enc (v .1)) ∙ rw (LF .length-enc (v .0) (h .0), LG .length-enc (v .1) (h .1));
   read-written = λ v h p r.
-      let x = F .enc (v .0) in
-      let y = G .enc (v .1) in
-      let one = at-first (F .dec) p x y r ∙ LF .read-written (v .0) (h .0) p (y ++ r) in
-      let two = at-second (G .dec) p x y r (LF .length-enc (v .0) (h .0)) ∙ LG .read-written (v .1) (h .1) (p ++ x) r in
-      rw (one, two);
+      both-read (F .dec) (G .dec) (λ a b. (a, b)) p (F .enc (v .0)) (G .enc (v .1)) r (LF .length-enc (v .0) (h .0))
+      (LF .read-written (v .0) (h .0) p _) (LG .read-written (v .1) (h .1) (p ++ F .enc (v .0)) r);
   valid-written = λ v h p r.
-      let x = F .enc (v .0) in
-      let y = G .enc (v .1) in
-      let one = at-first (F .valid) p x y r ∙ LF .valid-written (v .0) (h .0) p (y ++ r) in
-      let two = at-second (G .valid) p x y r (LF .length-enc (v .0) (h .0)) ∙ LG .valid-written (v .1) (h .1) (p ++ x) r in
-      rw (one, two);
+      both-read (F .valid) (G .valid) (λ a b. a && b) p (F .enc (v .0)) (G .enc (v .1)) r (LF .length-enc (v .0) (h .0))
+      (LF .valid-written (v .0) (h .0) p _) (LG .valid-written (v .1) (h .1) (p ++ F .enc (v .0)) r);
   write-read = λ s at b f h.
-      let one = and-left (F .valid s at) (G .valid s (at + F .width)) f in
-      let two = and-right (F .valid s at) (G .valid s (at + F .width)) f in
-      rw (LF .write-read s at b one (omega arith), LG .write-read s (at + F .width) b two (omega arith), ← drop-drop (F .width) at s)
+      rw (
+        LF .write-read s at b (and-left _ _ f) (omega arith),
+        LG .write-read s (at + F .width) b (and-right (F .valid s at) _ f) (omega arith),
+        ← drop-drop (F .width) at s,
+      )
       (sym (take-add (F .width) (G .width) (drop at s)));
-  held-read = λ s at b f. (
-    LF .held-read s at b (and-left (F .valid s at) (G .valid s (at + F .width)) f),
-    LG .held-read s (at + F .width) b (and-right (F .valid s at) (G .valid s (at + F .width)) f),
-  );
+  held-read = λ s at b f. (LF .held-read s at b (and-left _ _ f), LG .held-read s (at + F .width) b (and-right (F .valid s at) _ f));
 }
 
 module _ {A : Type 0} {F : Format A} (LF : Lawful F) where
@@ -112,33 +104,25 @@ module _ {A : Type 0} {F : Format A} (LF : Lawful F) where
   unfolding flatMap
   decs-encs [] h p r = refl
   decs-encs (a ∷ l) h p r =
-      let x = F .enc a in
-      let y = encs F l in
-      let one = at-first (F .dec) p x y r ∙ LF .read-written a (h .0) p (y ++ r) in
-      let two = at-second (decs F (length l)) p x y r (LF .length-enc a (h .0)) ∙ decs-encs l (h .1) (p ++ x) r in
-      rw (one, two)
+      both-read (F .dec) (decs F (length l)) (λ x xs. x ∷ xs) p (F .enc a) (encs F l) r (LF .length-enc a (h .0))
+      (LF .read-written a (h .0) p _) (decs-encs l (h .1) (p ++ F .enc a) r)
 
   encs-valid : (l : List A) → AllHold F l → (p r : List ℕ) → allValid F (length l) (p ++ (encs F l ++ r)) (length p) ≡ true
   unfolding flatMap
   encs-valid [] h p r = refl
   encs-valid (a ∷ l) h p r =
-      let x = F .enc a in
-      let y = encs F l in
-      let one = at-first (F .valid) p x y r ∙ LF .valid-written a (h .0) p (y ++ r) in
-      let two = at-second (allValid F (length l)) p x y r (LF .length-enc a (h .0)) ∙ encs-valid l (h .1) (p ++ x) r in
-      rw (one, two)
+      both-read (F .valid) (allValid F (length l)) (λ x y. x && y) p (F .enc a) (encs F l) r (LF .length-enc a (h .0))
+      (LF .valid-written a (h .0) p _) (encs-valid l (h .1) (p ++ F .enc a) r)
 
   encs-decs : (n : ℕ) (s : List ℕ) (at : ℕ) → Bytes s → allValid F n s at ≡ true → at + n * F .width ≤ length s
       → encs F (decs F n s at) ≡ take (n * F .width) (drop at s)
   unfolding flatMap
   encs-decs zero s at b f h = rw zero-mul
   encs-decs (suc n) s at b f h =
-      let one = and-left (F .valid s at) (allValid F n s (at + F .width)) f in
-      let two = and-right (F .valid s at) (allValid F n s (at + F .width)) f in
       let room : at + (F .width + n * F .width) ≤ length s = omega (arith, suc-mul n (F .width), h) in
       rw (
-        LF .write-read s at b one (omega arith),
-        encs-decs n s (at + F .width) b two (omega arith),
+        LF .write-read s at b (and-left _ _ f) (omega arith),
+        encs-decs n s (at + F .width) b (and-right (F .valid s at) _ f) (omega arith),
         ← drop-drop (F .width) at s,
         suc-mul,
         add-comm (n * F .width) (F .width),
@@ -148,9 +132,8 @@ module _ {A : Type 0} {F : Format A} (LF : Lawful F) where
   decs-held : (n : ℕ) (s : List ℕ) (at : ℕ) → Bytes s → allValid F n s at ≡ true → times n F .Holds (decs F n s at)
   decs-held zero s at b f = (refl, tt)
   decs-held (suc n) s at b f =
-      let one = and-left (F .valid s at) (allValid F n s (at + F .width)) f in
-      let rest = decs-held n s (at + F .width) b (and-right (F .valid s at) (allValid F n s (at + F .width)) f) in
-      (ap suc (rest .0), (LF .held-read s at b one, rest .1))
+      let rest = decs-held n s (at + F .width) b (and-right (F .valid s at) _ f) in
+      (ap suc (rest .0), (LF .held-read s at b (and-left _ _ f), rest .1))
 
   pub times-lawful : (n : ℕ) → Lawful (times n F)
   times-lawful n = record {

@@ -4,9 +4,6 @@ use Rattle.codec.proofs.Numbers.{numAt-halves, numAt-past}
 use Rattle.codec.proofs.cut_u32.Statement.{statement}
 use Rattle.codec.proofs.cut_u32.Tie as tie
 
-returns : tie.Need-returns
-returns c = sym (numAt-past 4 _ _ (c .if1 .taken))
-
 returns-2 : tie.Need-returns-2
 returns-2 c =
     let a = c .before .before .before .before .before .args in
@@ -14,5 +11,5 @@ returns-2 c =
 
 pub cut-u32-spec : {M : Type 1} → statement M
 cut-u32-spec =
-    tie.close
-    (tie.spec returns (λ c κs. search needs) (λ c. search needs) (λ c κs. search needs) (λ c κs. search needs) returns-2)
+    tie.close (tie.spec (λ c. sym (numAt-past 4 _ _ (c .if1 .taken))) (λ c κs. search needs) (λ c. search needs) (λ c κs. search needs)
+    (λ c κs. search needs) returns-2)

@@ -4,11 +4,6 @@ use Rattle.codec.proofs.Numbers.{numAt-byte, numAt-past}
 use Rattle.codec.proofs.get_u8.Statement.{statement}
 use Rattle.codec.proofs.get_u8.Tie as tie
 
-returns : tie.Need-returns
-returns c = sym (numAt-byte _ _)
-
-returns-2 : tie.Need-returns-2
-returns-2 c = sym (numAt-past 1 _ _ (c .if1 .left))
-
 pub get-u8-spec : {M : Type 1} → statement M
-get-u8-spec = tie.close (tie.spec (λ c. search needs) returns returns-2)
+get-u8-spec =
+    tie.close (tie.spec (λ c. search needs) (λ c. sym (numAt-byte _ _)) (λ c. sym (numAt-past 1 _ _ (c .if1 .left))))

@@ -3,8 +3,5 @@ use Rattle.registers.proofs.Bits.{laws}
 use Rattle.registers.proofs.Register.raise.Statement.{statement}
 use Rattle.registers.proofs.Register.raise.Tie as tie
 
-returns : tie.Need-returns
-returns c = (refl, laws)
-
 pub raise-spec : {M : Type 1} → statement M
-raise-spec = tie.close (tie.spec returns)
+raise-spec = tie.close (tie.spec (λ c. (refl, laws)))

@@ -1,8 +1,0 @@
-use borrow.Author.Needs.{needs}
-use Rattle.codec.proofs.get_u32.Statement.{statement}
-use Rattle.codec.proofs.get_u32.Tie as tie
-
-pub get-u32-spec : {M : Type 1} → statement M
-get-u32-spec =
-    tie.close
-    (tie.spec (λ c κs. search needs) (λ c. search needs) (λ c. search needs) (λ c κs. search needs) (λ c. search needs) (λ c κs. search needs) (λ c. search needs))
