@@ -7,6 +7,7 @@ use native.Mathlib.Omega.{arith}
 use lib.Dec.{eqb, ltb}
 use borrow.Author.Tests.{ltb-true, ltb-false, lt-leb, ne-eqb}
 use Rattle.base.specs.Tests.{among, within}
+use Rattle.base.proofs.Bools.{by-test}
 use Rattle.base.proofs.Tests.{tests, above-leb}
 use Rattle.control.specs.declared.Request.{Request}
 use Rattle.control.specs.declared.Request.the-variants.{RemoteDisconnect, RemoteReconnect, ManualDisconnect, ManualReconnect, LocalDisconnect, LocalReconnect}
@@ -38,13 +39,8 @@ Below (suc k) P = Below k P × P k
 
 at : (P : ℕ → Type 0) (k : ℕ) → Below k P → (m : ℕ) → m < k → P m
 at P zero h m b = absurd (omega arith)
-at P (suc k) h m b = go (ltb m k) refl (λ w. at P k (h .0) m w)
-  where
-    go : (x : Bool) → ltb m k ≡ x → (m < k → P m) → P m
-    go true e r = r (ltb-true m k e)
-    go false e r =
-        let z : m ≡ k = omega (arith, ltb-false m k e) in
-        rw z (h .1)
+at P (suc k) h m b =
+    by-test (ltb m k) (λ e. at P k (h .0) m (ltb-true m k e)) (λ e. let z : m ≡ k = omega (arith, ltb-false m k e) in rw z (h .1))
 
 -- a remote disconnect has two rows, from 1 and from 2
 two-rows : (a b w o : Bool) (t n : ℕ) → a || b ≡ w → cond a (Move t n o) (orStay (cond b (Move t n o) Stay)) ≡ cond w (Move t n o) Stay
@@ -78,17 +74,15 @@ above q m s h =
     rw (outside q m s z, z)
 
 pub rows : (q : Request) (m s : ℕ) → decision switchTable q m s ≡ answered q m s
-rows q m s = go (ltb m 7) refl
-  where
-    go : (x : Bool) → ltb m 7 ≡ x → decision switchTable q m s ≡ answered q m s
-    go true e = at (λ k. decision switchTable q k s ≡ answered q k s) 7 (computed q s) m (ltb-true m 7 e)
-    go false e = above q m s (ltb-false m 7 e)
+rows q m s =
+    by-test (ltb m 7) (λ e. at (λ k. decision switchTable q k s ≡ answered q k s) 7 (computed q s) m (ltb-true m 7 e))
+    (λ e. above q m s (ltb-false m 7 e))
 
 -- the same at a return, where the request was told, and where the mode alone decides
 pub asked : (q q′ : Request) (m s : ℕ) (d : Decision) → q ≡ q′ → d ≡ answered q′ m s → d ≡ decision switchTable q m s
 asked q q′ m s d e h = rw (rows q m s, e) h
 
 pub in-mode : (q : Request) (m s : ℕ) (d : Decision) → d ≡ answered q m s → d ≡ decision switchTable q m s
-in-mode q m s d h = asked q q m s d refl h
+in-mode q m s d h = rw (rows q m s) h
 
 pub ruleset answers = (asked, in-mode, tests)
