@@ -19,14 +19,14 @@ pub struct Watched {
 }
 
 // A sample is over if its power is above the threshold.
-pub fn is_over(threshold: i32, power: i32) -> bool
+fn is_over(threshold: i32, power: i32) -> bool
     ensures { λ r. ⌜ r ≡ isOver threshold power ⌝ }
 {
     threshold < power
 }
 
 // The range of the threshold, in watts; its upper end is its type's.
-pub fn is_threshold(watts: i32) -> bool
+fn is_threshold(watts: i32) -> bool
     ensures { λ r. ⌜ r ≡ isThreshold watts ⌝ }
 {
     0 <= watts
@@ -77,9 +77,8 @@ impl Limiter {
     }
 
     // The limiter after a sample that is over or not.
-    pub fn watch(self, over: bool) -> Watched
+    fn watch(self, over: bool) -> Watched
         ensures { λ r. ⌜ r ≡ watched self over ⌝ }
-        ensures laws { λ _. ⌜ Laws ⌝ }
     {
         let exceeded = self.exceeded;
         let run = self.run;
@@ -106,6 +105,7 @@ impl Limiter {
     // The limiter after a sample of power.
     pub fn sample(self, power: i32) -> Watched
         ensures { λ r. ⌜ r ≡ sampledPower self power ⌝ }
+        ensures laws { λ _. ⌜ Laws ⌝ }
     {
         self.watch(is_over(self.threshold, power))
     }

@@ -8,7 +8,7 @@ use Rattle.meter.proofs.step.Scalars.sample.Statement.{statement}
 use Rattle.meter.proofs.step.Scalars.sample.Tie as tie
 
 watched-is : (c : tie.After-sample) → c .sample .result ≡ sampledPower (c .before .args .self .limiter) (c .before .args .power)
-watched-is c = c .sample .ensures ∙ search needs
+watched-is c = c .sample .ensures .0 ∙ search needs
 
 returns : tie.Need-returns
 unfolding sampleResult
