@@ -8,6 +8,7 @@ use lib.Dec.{eqb, ltb}
 use lib.ListN.{length, take, drop, length-append, length-take, length-drop, take-append-drop}
 use lib.Seq.{take-all}
 use borrow.Author.Tests.{ltb-true, ltb-false, eqb-true, lt-ltb, le-ltb, le-leb, lt-leb, eq-eqb, ne-eqb}
+use Rattle.base.proofs.Bools.{by-test}
 use Rattle.meter.specs.declared.Outcome.{Outcome}
 use Rattle.replay.specs.declared.Record.{Record}
 use Rattle.replay.specs.Replay.{recordLength, firstIn, recordsFrom, startOf, meterAfter}
@@ -55,14 +56,12 @@ unfolding Blocks afterBlocks blocksText flatMap
 blocks-joined p [] goes h e =
     let z : _≡_ {A = ℕ} 0 1 = cc in
     absurd (omega arith)
-blocks-joined p (s ∷ ss) goes h e = go (eqb (length s) 4095) refl (λ full. blocks-joined (afterBlock p s) ss full (h .1 .1) e)
-  where
-    go : (x : Bool) → eqb (length s) 4095 ≡ x → (eqb (length s) 4095 ≡ true → blocksText (afterBlock p s) ss ≡ blockText (afterBlock p s) (joined ss))
-        → blockText p s ++ blocksText (afterBlock p s) ss ≡ blockText p (s ++ joined ss)
-    go true full rest = ap (λ (l : List ℕ). blockText p s ++ l) (rest full) ∙ block-cat p s (joined ss) (eqb-true (length s) 4095 full)
-    go false last rest =
-        let none = no-block (afterBlock p s) ss last (h .1 .1) in
-        rw (none, append-nil (blockText p s), append-nil s)
+blocks-joined p (s ∷ ss) goes h e =
+    by-test (eqb (length s) 4095)
+    (λ full.
+    ap (λ (l : List ℕ). blockText p s ++ l) (blocks-joined (afterBlock p s) ss full (h .1 .1) e)
+    ∙ block-cat p s (joined ss) (eqb-true (length s) 4095 full))
+    (λ last. rw (no-block (afterBlock p s) ss last (h .1 .1), append-nil (blockText p s), append-nil s))
 
 -- ---- the whole
 
@@ -129,19 +128,17 @@ parts-listed first rest blocks size followed ended read =
 whole : (input : List ℕ) (blocks : List (List ℕ)) → ReadAs input blocks
     → firstText (take recordLength input) ++ blocksText (afterFirst (take recordLength input)) blocks ≡ listingOf input
 unfolding blocksText
-whole input blocks r = go (ltb (length input) 21) refl
-  where
-    go : (x : Bool) → ltb (length input) 21 ≡ x
-        → firstText (take 21 input) ++ blocksText (afterFirst (take 21 input)) blocks ≡ listingOf input
-    go true cut =
-        let few : length input < 21 = ltb-true (length input) 21 cut in
-        let all : take 21 input ≡ input = take-all 21 input (omega arith) in
-        let off : afterFirst (take 21 input) .more ≡ false = rw (lt-leb 21 (length (take 21 input)) (rw all few)) in
-        rw (no-block (afterFirst (take 21 input)) blocks off (r .followed), append-nil, all) (short-listed input few)
-    go false long =
-        let size : length (take 21 input) ≡ 21 = omega (arith, length-take 21 input, ltb-false (length input) 21 long) in
-        parts-listed (take 21 input) (drop 21 input) blocks size (r .followed) (r .ended) (r .all-read)
-        ∙ ap listingOf (take-append-drop 21 input)
+whole input blocks r =
+    by-test (ltb (length input) 21)
+    (λ cut.
+    let few : length input < 21 = ltb-true (length input) 21 cut in
+    let all : take 21 input ≡ input = take-all 21 input (omega arith) in
+    let off : afterFirst (take 21 input) .more ≡ false = rw (lt-leb 21 (length (take 21 input)) (rw all few)) in
+    rw (no-block (afterFirst (take 21 input)) blocks off (r .followed), append-nil, all) (short-listed input few))
+    (λ long.
+    let size : length (take 21 input) ≡ 21 = omega (arith, length-take 21 input, ltb-false (length input) 21 long) in
+    parts-listed (take 21 input) (drop 21 input) blocks size (r .followed) (r .ended) (r .all-read)
+    ∙ ap listingOf (take-append-drop 21 input))
 
 -- ---- the blocks of an input
 
@@ -162,27 +159,22 @@ more-cut p s t goes h c =
 cut-of : (n : ℕ) (p : Progress) (s : List ℕ) → p .more ≡ true → length s ≤ n → Cut p s
 cut-of zero p s goes h = last-cut p s goes (omega arith)
 cut-of (suc n) p s goes h =
-    go (ltb (length s) 4095) refl (λ full. cut-of n (afterBlock p (take 4095 s)) (drop 4095 s) full)
-  where
-    go : (x : Bool) → ltb (length s) 4095 ≡ x
-        → (afterBlock p (take 4095 s) .more ≡ true → length (drop 4095 s) ≤ n → Cut (afterBlock p (take 4095 s)) (drop 4095 s)) → Cut p s
-    go true short rest = last-cut p s goes (ltb-true (length s) 4095 short)
-    go false long rest =
-        let enough = ltb-false (length s) 4095 long in
-        let size : length (take 4095 s) ≡ 4095 = omega (arith, length-take 4095 s) in
-        let fewer : length (drop 4095 s) ≤ n = omega (arith, length-drop 4095 s) in
-        subst (λ (t : List ℕ). Cut p t) (take-append-drop 4095 s)
-        (more-cut p (take 4095 s) (drop 4095 s) goes size (rest (eq-eqb (length (take 4095 s)) 4095 size) fewer))
+    by-test (ltb (length s) 4095) (λ short. last-cut p s goes (ltb-true (length s) 4095 short))
+    (λ long.
+    let enough = ltb-false (length s) 4095 long in
+    let size : length (take 4095 s) ≡ 4095 = omega (arith, length-take 4095 s) in
+    let fewer : length (drop 4095 s) ≤ n = omega (arith, length-drop 4095 s) in
+    let rest = cut-of n (afterBlock p (take 4095 s)) (drop 4095 s) (eq-eqb (length (take 4095 s)) 4095 size) fewer in
+    subst (λ (t : List ℕ). Cut p t) (take-append-drop 4095 s) (more-cut p (take 4095 s) (drop 4095 s) goes size rest))
 
 in-blocks : (input : List ℕ) → (blocks : List (List ℕ)) × ReadAs input blocks
 unfolding Blocks afterBlocks
-in-blocks input = go (afterFirst (take 21 input) .more) refl
-  where
-    go : (x : Bool) → afterFirst (take 21 input) .more ≡ x → (blocks : List (List ℕ)) × ReadAs input blocks
-    go true on =
-        let c = cut-of (length (drop 21 input)) (afterFirst (take 21 input)) (drop 21 input) on (omega arith) in
-        (c .0, record { followed = c .1 .0; ended = c .1 .1 .0; all-read = λ e. c .1 .1 .1 })
-    go false off = ([], record { followed = tt; ended = off; all-read = λ on. cc })
+in-blocks input =
+    by-test (afterFirst (take 21 input) .more)
+    (λ on.
+    let c = cut-of (length (drop 21 input)) (afterFirst (take 21 input)) (drop 21 input) on (omega arith) in
+    (c .0, record { followed = c .1 .0; ended = c .1 .1 .0; all-read = λ e. c .1 .1 .1 }))
+    (λ off. ([], record { followed = tt; ended = off; all-read = λ on. cc }))
 
 pub laws : Laws
 laws = record { in-blocks = in-blocks; whole = whole }

@@ -8,6 +8,7 @@ use lib.Dec.{eqb, leb}
 use lib.ListN.{length, length-append}
 use lib.Seq.{sets, length-sets}
 use borrow.Author.Tests.{lt-ltb, le-ltb, eq-eqb, ne-eqb}
+use Rattle.base.proofs.Bools.{by-test}
 use Rattle.io.specs.Counts.{Counts}
 use Rattle.io.proofs.Counting.{counts}
 use Rattle.codec.proofs.Stores.{sets-then}
@@ -27,11 +28,7 @@ abbrev PutAll : List ℕ → List ℕ → ℕ → List ℕ → Type 0
 PutAll text xs len′ text′ = PutAtStart text xs len′ text′ × Counts len′ text′
 
 pub cut-length : (n : ℕ) → length (cutLine n) ≤ 6
-cut-length n = go (eqb (n % 21) 0)
-  where
-    go : (b : Bool) → length (cond b [] (cutLine 1)) ≤ 6
-    go true = omega arith
-    go false = omega arith
+cut-length n = by-test (eqb (n % 21) 0) (λ e. rw e (omega arith)) (λ e. rw e (omega arith))
 
 -- ---- the first record
 

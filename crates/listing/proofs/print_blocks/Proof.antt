@@ -14,9 +14,6 @@ Inv-loop input output printed₀ printed = Led (printed₀ .progress) (printed .
 abbrev μ-loop : tie.MeasureT-loop
 μ-loop input output printed₀ printed = 18446744073709551615 - printed .progress .position
 
-loop-holds : tie.Need-loop-holds Inv-loop μ-loop
-loop-holds c = led-nowhere _
-
 loop-less : tie.Need-loop-less Inv-loop μ-loop
 loop-less c = omega (arith, ap (λ (p : Progress). p .position) (c .print-block .ensures .progress))
 
@@ -43,4 +40,4 @@ returns-3 c =
 
 pub print-blocks-spec : {M : Type 1} → statement M
 print-blocks-spec =
-    tie.close (tie.spec Inv-loop μ-loop loop-holds (λ c κs. search needs) loop-less loop-again returns returns-2 returns-3)
+    tie.close (tie.spec Inv-loop μ-loop (λ c. led-nowhere _) (λ c κs. search needs) loop-less loop-again returns returns-2 returns-3)

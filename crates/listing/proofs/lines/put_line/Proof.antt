@@ -28,9 +28,6 @@ slice-write-text c =
     let line = c .before .before .before .args .t3 in
     omega (arith, length-drop (l .from) (line .bytes), length-drop (line .start) (line .bytes))
 
-add-to : tie.Need-add-to Inv-loop μ-loop
-add-to c = omega (arith, slice-write-text c)
-
 loop-again : tie.Need-loop-again Inv-loop μ-loop
 loop-again c =
     let l = c .before .before .loop in
@@ -55,16 +52,5 @@ returns c =
 
 pub put-line-spec : {M : Type 1} → statement M
 put-line-spec =
-    tie.close
-    (tie.spec
-    Inv-loop
-    μ-loop
-    (λ c. search needs)
-    (λ c. search needs)
-    slice-write-text
-    (λ c. search needs)
-    add-to
-    (λ c. search needs)
-    loop-again
-    (λ c. search needs)
-    returns)
+    tie.close (tie.spec Inv-loop μ-loop (λ c. search needs) (λ c. search needs) slice-write-text (λ c. search needs)
+    (λ c. omega (arith, slice-write-text c)) (λ c. search needs) loop-again (λ c. search needs) returns)
