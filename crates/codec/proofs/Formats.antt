@@ -40,17 +40,10 @@ byte-of-flag zero e = refl
 byte-of-flag (suc zero) e = refl
 byte-of-flag (suc (suc n)) e = absurd (omega (arith, leb-true (suc (suc n)) 1 e))
 
-flag-of-byte : (b : Bool) → eqb (cond b 1 0) 1 ≡ b
-flag-of-byte true = refl
-flag-of-byte false = refl
-
-flag-valid : (b : Bool) → leb (cond b 1 0) 1 ≡ true
-flag-valid true = refl
-flag-valid false = refl
-
-flag-lt : (b : Bool) → cond b 1 0 < 256
-flag-lt true = omega arith
-flag-lt false = omega arith
+-- the byte of a flag is read as the flag, is valid, and is a byte
+flag-byte : (b : Bool) → (eqb (cond b 1 0) 1 ≡ b) × (leb (cond b 1 0) 1 ≡ true) × (cond b 1 0 < 256)
+flag-byte true = (refl, refl, omega arith)
+flag-byte false = (refl, refl, omega arith)
 
 -- what the code makes of a truth value by `as u8`
 pub byte-of-bool : (b : Bool) → boolByte b ≡ cond b 1 0
@@ -60,8 +53,8 @@ byte-of-bool false = refl
 pub flag-lawful : Lawful flag
 flag-lawful = record {
   length-enc = λ b h. length-be 1 (cond b 1 0);
-  read-written = λ b h p r. rw (num-lawful 1 .read-written (cond b 1 0) (flag-lt b) p r) (flag-of-byte b);
-  valid-written = λ b h p r. rw (num-lawful 1 .read-written (cond b 1 0) (flag-lt b) p r) (flag-valid b);
+  read-written = λ b h p r. rw (num-lawful 1 .read-written (cond b 1 0) (flag-byte b .2) p r) (flag-byte b .0);
+  valid-written = λ b h p r. rw (num-lawful 1 .read-written (cond b 1 0) (flag-byte b .2) p r) (flag-byte b .1);
   write-read = λ s at y f h. rw (byte-of-flag (numAt 1 s at) f) (be-numAt 1 s at y h);
   held-read = λ s at y f. tt;
 }

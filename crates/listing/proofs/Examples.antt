@@ -23,5 +23,7 @@ use Rattle.listing.specs.Listing.{listingOf}
 use Rattle.listing.specs.Examples.{Examples}
 
 pub examples : Examples
-unfolding listingOf linesFrom flatMap decimal digits field lineBytes be numAt freshAnswer callOf commanded applied soundMeter soundScalars soundControl soundLimiter soundLogs soundArrays soundLog ownCodes zeroPast padded flat laid listsOf changed newest among every below builtIn lookup besides mayHold switchTable decision modeDecision watched requestResult sampleResult modeResult scriptResult
+unfolding listingOf linesFrom flatMap decimal digits field lineBytes be numAt freshAnswer callOf commanded applied soundMeter soundScalars
+    soundControl soundLimiter soundLogs soundArrays soundLog ownCodes zeroPast padded flat laid listsOf changed newest among every below
+    builtIn lookup besides mayHold switchTable decision modeDecision watched requestResult sampleResult modeResult scriptResult
 examples = record { empty = refl; first-cut = refl; bad = refl; refused = refl; cut = refl; taken = refl; worked = refl }

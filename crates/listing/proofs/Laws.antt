@@ -45,17 +45,13 @@ block-cat p s t full =
 no-block : (p : Progress) (ss : List (List ℕ)) → p .more ≡ false → Blocks p ss → ss ≡ []
 unfolding Blocks
 no-block p [] e h = refl
-no-block p (s ∷ ss) e h =
-    let z : _≡_ {A = ℕ} 0 1 = cc (h .0) in
-    absurd (omega arith)
+no-block p (s ∷ ss) e h = absurd (let z : _≡_ {A = ℕ} 0 1 = cc (h .0) in omega arith)
 
 -- blocks until the listing ends add what their bytes would in one
 blocks-joined : (p : Progress) (ss : List (List ℕ)) → p .more ≡ true → Blocks p ss → afterBlocks p ss .more ≡ false
     → blocksText p ss ≡ blockText p (joined ss)
 unfolding Blocks afterBlocks blocksText flatMap
-blocks-joined p [] goes h e =
-    let z : _≡_ {A = ℕ} 0 1 = cc in
-    absurd (omega arith)
+blocks-joined p [] goes h e = absurd (let z : _≡_ {A = ℕ} 0 1 = cc in omega arith)
 blocks-joined p (s ∷ ss) goes h e =
     by-test (eqb (length s) 4095)
     (λ full.

@@ -49,14 +49,9 @@ module _ (p s : List ℕ) where
   record-inside : (at : ℕ) → at + 21 ≤ length p → recordFormat .dec (p ++ s) at ≡ recordFormat .dec p at
   record-inside at h =
       record-numbers (p ++ s) at
-      ∙ rw (
-        number-inside 1 at (omega arith),
-        number-inside 4 (at + 1) (omega arith),
-        number-inside 4 (at + 5) (omega arith),
-        number-inside 4 (at + 9) (omega arith),
-        number-inside 4 (at + 13) (omega arith),
-        number-inside 4 (at + 17) (omega arith),
-      ) (sym (record-numbers p at))
+      ∙ rw (number-inside 1 at (omega arith), number-inside 4 (at + 1) (omega arith), number-inside 4 (at + 5) (omega arith))
+      (rw (number-inside 4 (at + 9) (omega arith), number-inside 4 (at + 13) (omega arith), number-inside 4 (at + 17) (omega arith))
+      (sym (record-numbers p at)))
 
   record-behind : (at : ℕ) → recordFormat .dec (p ++ s) (length p + at) ≡ recordFormat .dec s at
   record-behind at = simp (add-assoc, number-behind)

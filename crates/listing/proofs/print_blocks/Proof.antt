@@ -14,30 +14,17 @@ Inv-loop input output printed₀ printed = Led (printed₀ .progress) (printed .
 abbrev μ-loop : tie.MeasureT-loop
 μ-loop input output printed₀ printed = 18446744073709551615 - printed .progress .position
 
-loop-less : tie.Need-loop-less Inv-loop μ-loop
-loop-less c = omega (arith, ap (λ (p : Progress). p .position) (c .print-block .ensures .progress))
-
-loop-again : tie.Need-loop-again Inv-loop μ-loop
-loop-again c =
-    let p = c .before .before .before in
-    led-on _ (p .before .before .before .loop .inv) (p .if2 .taken) (c .print-block .ensures)
-
-returns : tie.Need-returns Inv-loop μ-loop
-returns c =
-    let led = c .before .before .before .before .loop .inv in
-    let unwritten = c .if3 .left in
-    record { blocks = led .0; followed = led .1 .0; progress = led .1 .1; ended = λ w lt. cc }
-
-returns-2 : tie.Need-returns-2 Inv-loop μ-loop
-returns-2 c =
-    let led = c .before .before .before .loop .inv in
-    record { blocks = led .0; followed = led .1 .0; progress = led .1 .1; ended = λ w lt. c .if2 .left }
-
-returns-3 : tie.Need-returns-3 Inv-loop μ-loop
-returns-3 c =
-    let led = c .before .before .loop .inv in
-    record { blocks = led .0; followed = led .1 .0; progress = led .1 .1; ended = λ w lt. absurd (omega (arith, c .if1 .left)) }
-
 pub print-blocks-spec : {M : Type 1} → statement M
 print-blocks-spec =
-    tie.close (tie.spec Inv-loop μ-loop (λ c. led-nowhere _) (λ c κs. search needs) loop-less loop-again returns returns-2 returns-3)
+    tie.close (tie.spec Inv-loop μ-loop (λ c. led-nowhere _) (λ c κs. search needs)
+    (λ c. omega (arith, ap (λ (p : Progress). p .position) (c .print-block .ensures .progress)))
+    (λ c. let p = c .before .before .before in led-on _ (p .before .before .before .loop .inv) (p .if2 .taken) (c .print-block .ensures))
+    (λ c.
+    let led = c .before .before .before .before .loop .inv in
+    record { blocks = led .0; followed = led .1 .0; progress = led .1 .1; ended = λ w lt. cc (c .if3 .left) })
+    (λ c.
+    let led = c .before .before .before .loop .inv in
+    record { blocks = led .0; followed = led .1 .0; progress = led .1 .1; ended = λ w lt. c .if2 .left })
+    (λ c.
+    let led = c .before .before .loop .inv in
+    record { blocks = led .0; followed = led .1 .0; progress = led .1 .1; ended = λ w lt. absurd (omega (arith, c .if1 .left)) }))

@@ -17,17 +17,6 @@ Inv-loop text₀ block position meter₀ len₀ i₀ text meter len i =
 abbrev μ-loop : tie.MeasureT-loop
 μ-loop text₀ block position meter₀ len₀ i₀ text meter len i = length block / 21 - i
 
-loop-holds : tie.Need-loop-holds Inv-loop μ-loop
-loop-holds c =
-    let a = c .before .before .args in
-    let s = a .block .now in
-    (omega arith, none-listed (a .text .now) (a .position) (a .before) (recordsFrom 0 s))
-
-put-line-requires : tie.Need-put-line-requires Inv-loop μ-loop
-put-line-requires c κs =
-    let l = c .before .before .before .before .before .loop in
-    omega (arith, l .inv .1 .size, l .inv .1 .room)
-
 loop-again : tie.Need-loop-again Inv-loop μ-loop
 loop-again c =
     let p = c .before .before .before in
@@ -53,6 +42,7 @@ returns c =
 
 pub put-lines-spec : {M : Type 1} → statement M
 put-lines-spec =
-    tie.close (tie.spec Inv-loop μ-loop loop-holds (λ c. search needs) (λ c κs. search needs) (λ c κs. search needs) (λ c. search needs)
-    (λ c κs. search needs) put-line-requires (λ c. search needs) (λ c. search needs) loop-again (λ c. c .before .loop .inv .1 .size)
-    returns)
+    tie.close (tie.spec Inv-loop μ-loop (λ c. (omega arith, none-listed _ _ _ _)) (λ c. search needs) (λ c κs. search needs)
+    (λ c κs. search needs) (λ c. search needs) (λ c κs. search needs)
+    (λ c κs. let l = c .before .before .before .before .before .loop in omega (arith, l .inv .1 .size, l .inv .1 .room))
+    (λ c. search needs) (λ c. search needs) loop-again (λ c. c .before .loop .inv .1 .size) returns)
