@@ -49,4 +49,8 @@ histories =
       lines-since-clear = refl;
       refused-counts-nothing = refl;
       empty = refl;
+      several-stretches = refl;
+      several-firings = refl;
+      several-thresholds = refl;
+      several-runs = refl;
     }

@@ -1,12 +1,14 @@
--- What holds of the account of every fresh meter.
+-- What holds of the account of every fresh meter, and of one with one monitored value.
+use Rattle.history.specs.Effects.{AnyFresh}
 use Rattle.history.specs.Limiter.{observations}
-use Rattle.history.specs.Laws.{Laws}
-use Rattle.history.proofs.Splits.{mode-split, limits-split, filter-split, clock-split, spell-split, switch-inside, switch-outside, mode-zero-decides, reconnect-decides, reconnect-outside-decides-nothing, inside-decides-nothing, stands-split, owed-split}
+use Rattle.history.specs.Laws.{LawsOf, Laws}
+use Rattle.history.proofs.Splits.{mode-split, limits-split, filter-split, clock-split, spell-split, switch-inside, switch-outside, mode-zero-decides, reconnect-decides, reconnect-outside-decides-nothing, manual-decides, other-modes-decide-nothing, others-decide-nothing, inside-decides-nothing, stands-split, register-bits, owed-split}
 use Rattle.history.proofs.Stretches.{others-unseen, in-force, in-force-limits, stretch-split, exceeded-split, run-split}
-use Rattle.history.proofs.Openings.{openings-accepted, account-accepted, refused-account}
+use Rattle.history.proofs.Openings.{openings-count-prefixes, openings-accepted, account-accepted, refused-account}
+use Rattle.history.proofs.OneMonitored.{one-monitored-value}
 
-pub laws : Laws
-laws f =
+laws-of : (f : AnyFresh) → LawsOf f
+laws-of f =
     record {
       modeLast = mode-split f;
       limitsLast = limits-split f;
@@ -18,16 +20,24 @@ laws f =
       modeZeroDecides = mode-zero-decides f;
       reconnectDecides = reconnect-decides f;
       reconnectOutside = reconnect-outside-decides-nothing f;
+      manualDecides = manual-decides f;
+      otherModesDecideNothing = other-modes-decide-nothing f;
+      othersDecideNothing = others-decide-nothing f;
       insideDecidesNothing = inside-decides-nothing f;
       bitStands = stands-split;
+      registerBits = register-bits;
       settingInForce = in-force f;
       limitsInForce = in-force-limits f;
       othersUnseen = others-unseen f;
       fullStretch = stretch-split;
-      exceededLatest = λ h. exceeded-split (observations f h);
+      exceededLatest = λ k h. exceeded-split (observations f k h);
       runTrailing = run-split f;
       owedLines = owed-split f;
+      openingsCountPrefixes = λ rows. openings-count-prefixes rows f;
       openingsAccepted = λ rows. openings-accepted rows f;
       accountAccepted = λ rows. account-accepted rows f;
       refusedNothing = λ rows. refused-account rows f;
     }
+
+pub laws : Laws
+laws = (laws-of, one-monitored-value)

@@ -1,5 +1,5 @@
 -- Each sentence of the account that says 'there is .. and none later ..', as a split of the history, both ways.
-use Prim.Native.Nat.{ℕ, suc, _+_}
+use Prim.Native.Nat.{ℕ, suc, _+_, _<_}
 use native.Mathlib.Omega.{arith}
 use native.Mathlib.Nat.{zero-add, suc-add, add-zero}
 use mathlib.Core.Path.{_≡_, refl, sym, ap, ap₂, subst, _∙_}
@@ -8,14 +8,17 @@ use mathlib.Core.List.{List, [], _∷_, _++_, append-nil, append-assoc}
 use mathlib.Core.Logic.{_↔_, _≢_, _⊎_, inl, inr}
 use mathlib.Core.Option.{Option, none, some}
 use lib.Dec.{eqb}
+use lib.IntN.{ℤ}
 use borrow.Author.Tests.{eqb-true, eq-eqb, ne-eqb}
 use Rattle.base.specs.Numbers.{held}
+use Rattle.base.specs.Bits.{bit}
 use Rattle.base.specs.Tests.{among}
+use Rattle.base.proofs.Bits.{bit-number}
 use Rattle.events.specs.Line.{Line, line}
-use Rattle.history.specs.Effects.{Fresh, remoteDisconnect, remoteReconnect, manualDisconnect, manualReconnect, WhichRegister, Effect, sampled, requested, modeSet, limitsSet, clockSet, occurred, filterSet, bitsCleared, logCleared}
-use Rattle.history.specs.Last.{History, otherwise, last, modeIn, modeOf, Limits, limits, limitsIn, limitsOf, filterIn, filterOf, clockIn, samplesSince, clockOf}
-use Rattle.history.specs.Switch.{given, spellEdge, spell, decides, switchOf}
-use Rattle.history.specs.Registers.{raises, clears, stands}
+use Rattle.history.specs.Effects.{AnyFresh, remoteDisconnect, remoteReconnect, manualDisconnect, manualReconnect, WhichRegister, Effect, sampled, requested, modeSet, limitsSet, clockSet, occurred, filterSet, bitsCleared, logCleared}
+use Rattle.history.specs.Last.{History, otherwise, given, last, modeIn, modeOf, Limits, limits, limitsIn, limitsOf, filterIn, filterOf, clockIn, samplesSince, clockOf}
+use Rattle.history.specs.Switch.{spellEdge, spell, decides, switchOf}
+use Rattle.history.specs.Registers.{raises, clears, stands, bitsOf}
 use Rattle.history.specs.Logs.{owedBy, clearsLog, owed}
 use Rattle.history.specs.Splits.{NonePicks, Latest, LatestElse, Ongoing, samplesIn, ClockSince, lastSet, neverSet, InSpell, owedBetween, NotCleared, OwedSince, lastClear, neverCleared}
 use Rattle.history.proofs.Lists.{each-first, each-rest, each-only, latest-or-none, kept, latest-split, ongoing-split}
@@ -28,11 +31,11 @@ pub last-split : {A : Type 0} (pick : Effect → History → Option A) (a : A) (
 unfolding last
 last-split pick a = latest-split pick (last pick a) (λ e h. refl)
 
-pub mode-split : (f : Fresh) (h : History) (m : ℕ) → (modeOf f h ≡ m) ↔ LatestElse modeIn (f .mode) h m
+pub mode-split : (f : AnyFresh) (h : History) (m : ℕ) → (modeOf f h ≡ m) ↔ LatestElse modeIn (f .mode) h m
 mode-split f = last-split modeIn (f .mode)
 
-pub limits-split : (f : Fresh) (h : History) (l : Limits) → (limitsOf f h ≡ l) ↔ LatestElse limitsIn (limits (f .threshold) (f .over) (f .under)) h l
-limits-split f = last-split limitsIn (limits (f .threshold) (f .over) (f .under))
+pub limits-split : (f : AnyFresh) (h : History) (l : Limits) → (limitsOf f h ≡ l) ↔ LatestElse limitsIn (limits (f .thresholds) (f .over) (f .under)) h l
+limits-split f = last-split limitsIn (limits (f .thresholds) (f .over) (f .under))
 
 pub filter-split : (s : WhichRegister) (h : History) (n : ℕ) → (filterOf s h ≡ n) ↔ LatestElse (filterIn s) 0 h n
 filter-split s = last-split (filterIn s) 0
@@ -51,7 +54,10 @@ since (filterSet s m ∷ later) before n = since later before (each-rest n)
 since (bitsCleared s m ∷ later) before n = since later before (each-rest n)
 since (logCleared m ∷ later) before n = since later before (each-rest n)
 
-since-all : (f : Fresh) (later before : History) → NonePicks clockIn later before → clockOf f (later ++ before) ≡ held (last clockIn (f .clock) before + (samplesIn later + samplesSince before))
+since-all :
+    (f : AnyFresh) (later before : History)
+    → NonePicks clockIn later before
+    → clockOf f (later ++ before) ≡ held (last clockIn (f .clock) before + (samplesIn later + samplesSince before))
 unfolding last
 since-all f later before n =
     ap₂ (λ (x y : ℕ). held (x + y)) (kept clockIn (last clockIn (f .clock)) (λ e h. refl) later before n) (since later before n)
@@ -67,11 +73,15 @@ set-only (filterSet s n) h t q = absurd (some≢none (sym q))
 set-only (bitsCleared s n) h t q = absurd (some≢none (sym q))
 set-only (logCleared n) h t q = absurd (some≢none (sym q))
 
-pub clock-split : (f : Fresh) (h : History) (t : ℕ) → (clockOf f h ≡ t) ↔ ClockSince f h t
+pub clock-split : (f : AnyFresh) (h : History) (t : ℕ) → (clockOf f h ≡ t) ↔ ClockSince f h t
 unfolding last samplesSince
 clock-split f h t = (λ e. subst (ClockSince f h) e (go (latest-or-none clockIn h)), from)
   where
-    after : (later : History) (n : ℕ) (before : History) → h ≡ later ++ (clockSet n ∷ before) → NonePicks clockIn later (clockSet n ∷ before) → clockOf f h ≡ held (n + samplesIn later)
+    after :
+        (later : History) (n : ℕ) (before : History)
+        → h ≡ later ++ (clockSet n ∷ before)
+        → NonePicks clockIn later (clockSet n ∷ before)
+        → clockOf f h ≡ held (n + samplesIn later)
     after later n before s c = ap (clockOf f) s ∙ since-all f later (clockSet n ∷ before) c ∙ rw add-zero
 
     ever : NonePicks clockIn h [] → clockOf f h ≡ held (f .clock + samplesIn h)
@@ -117,11 +127,7 @@ no-end (requested remoteDisconnect) h r z = refl
 no-end (requested remoteReconnect) h r z = absurd (r refl)
 no-end (requested manualDisconnect) h r z = refl
 no-end (requested manualReconnect) h r z = refl
-no-end (modeSet n) h r z = go (eqb n 0) refl
-  where
-    go : (x : Bool) → eqb n 0 ≡ x → isEdge false (given x false) ≡ false
-    go true q = absurd (z (ap modeSet (eqb-true n 0 q)))
-    go false q = refl
+no-end (modeSet n) h r z = rw (ne-eqb n 0 (λ q. z (ap modeSet q)))
 no-end (limitsSet t o u) h r z = refl
 no-end (clockSet n) h r z = refl
 no-end (occurred x) h r z = refl
@@ -178,7 +184,7 @@ spell-split h = (to, from)
         })
 
 -- 'Inside one the switch is 0'
-pub switch-inside : (f : Fresh) (h : History) → InSpell h → switchOf f h ≡ 0
+pub switch-inside : (f : AnyFresh) (h : History) → InSpell h → switchOf f h ≡ 0
 unfolding switchOf
 switch-inside f h i = rw (spell-split h .1 i)
 
@@ -190,33 +196,61 @@ outside h n = go (spell h) refl
     go false q = q
 
 -- 'Otherwise the last deciding call rules: fresh [gives 1]'
-pub switch-outside : (f : Fresh) (h : History) (v : ℕ) → ¬ InSpell h → (switchOf f h ≡ v) ↔ LatestElse (decides f) 1 h v
+pub switch-outside : (f : AnyFresh) (h : History) (v : ℕ) → ¬ InSpell h → (switchOf f h ≡ v) ↔ LatestElse (decides f) 1 h v
 unfolding switchOf
 switch-outside f h v n = rw (outside h n) (last-split (decides f) 1 h v)
 
 -- only 'a remote reconnect ending a spell' decides
-pub reconnect-outside-decides-nothing : (f : Fresh) (h : History) → ¬ InSpell h → decides f (requested remoteReconnect) h ≡ none
+pub reconnect-outside-decides-nothing : (f : AnyFresh) (h : History) → ¬ InSpell h → decides f (requested remoteReconnect) h ≡ none
 reconnect-outside-decides-nothing f h n = rw (outside h n)
 
 -- the call that ends a spell is not inside it: 'mode 0', 'a remote reconnect ending a spell in mode 2 or 4 give 1', 'in another mode' 2
-pub mode-zero-decides : (f : Fresh) (h : History) → decides f (modeSet 0) h ≡ some 1
+pub mode-zero-decides : (f : AnyFresh) (h : History) → decides f (modeSet 0) h ≡ some 1
 mode-zero-decides f h = refl
 
-pub reconnect-decides : (f : Fresh) (h : History) → InSpell h → decides f (requested remoteReconnect) h ≡ some (cond (among (2 ∷ 4 ∷ []) (modeOf f h)) 1 2)
+pub reconnect-decides : (f : AnyFresh) (h : History) → InSpell h → decides f (requested remoteReconnect) h ≡ some (cond (among (2 ∷ 4 ∷ []) (modeOf f h)) 1 2)
 reconnect-decides f h i = rw (spell-split h .1 i)
 
+-- 'manual reconnect' gives 1, 'manual disconnect' 2
+pub manual-decides :
+    (f : AnyFresh) (h : History)
+    → ¬ InSpell h
+    → (decides f (requested manualReconnect) h ≡ some 1) × (decides f (requested manualDisconnect) h ≡ some 2)
+manual-decides f h n = (rw (outside h n), rw (outside h n))
+
+-- 'Other mode changes leave the switch'
+pub other-modes-decide-nothing : (f : AnyFresh) (n : ℕ) (h : History) → n ≢ 0 → decides f (modeSet n) h ≡ none
+other-modes-decide-nothing f n h z = rw (ne-eqb n 0 z)
+
+pub others-decide-nothing :
+    (f : AnyFresh) (e : Effect) (h : History)
+    → ((ps : List ℤ) → e ≢ sampled ps)
+    → ((n : ℕ) → e ≢ modeSet n)
+    → e ≢ requested remoteReconnect
+    → e ≢ requested manualDisconnect
+    → e ≢ requested manualReconnect
+    → decides f e h ≡ none
+others-decide-nothing f (sampled ps) h s m r d c = absurd (s ps refl)
+others-decide-nothing f (requested remoteDisconnect) h s m r d c = refl
+others-decide-nothing f (requested remoteReconnect) h s m r d c = absurd (r refl)
+others-decide-nothing f (requested manualDisconnect) h s m r d c = absurd (d refl)
+others-decide-nothing f (requested manualReconnect) h s m r d c = absurd (c refl)
+others-decide-nothing f (modeSet n) h s m r d c = absurd (m n refl)
+others-decide-nothing f (limitsSet ts o u) h s m r d c = refl
+others-decide-nothing f (clockSet n) h s m r d c = refl
+others-decide-nothing f (occurred x) h s m r d c = refl
+others-decide-nothing f (filterSet x n) h s m r d c = refl
+others-decide-nothing f (bitsCleared x n) h s m r d c = refl
+others-decide-nothing f (logCleared n) h s m r d c = refl
+
 -- 'Calls inside a spell decide nothing'
-pub inside-decides-nothing : (f : Fresh) (e : Effect) (h : History) → InSpell h → e ≢ requested remoteReconnect → e ≢ modeSet 0 → decides f e h ≡ none
+pub inside-decides-nothing : (f : AnyFresh) (e : Effect) (h : History) → InSpell h → e ≢ requested remoteReconnect → e ≢ modeSet 0 → decides f e h ≡ none
 inside-decides-nothing f (sampled p) h i r z = rw (spell-split h .1 i)
 inside-decides-nothing f (requested remoteDisconnect) h i r z = refl
 inside-decides-nothing f (requested remoteReconnect) h i r z = absurd (r refl)
 inside-decides-nothing f (requested manualDisconnect) h i r z = rw (spell-split h .1 i)
 inside-decides-nothing f (requested manualReconnect) h i r z = rw (spell-split h .1 i)
-inside-decides-nothing f (modeSet n) h i r z = go (eqb n 0) refl
-  where
-    go : (x : Bool) → eqb n 0 ≡ x → given {A = ℕ} x 1 ≡ none
-    go true q = absurd (z (ap modeSet (eqb-true n 0 q)))
-    go false q = refl
+inside-decides-nothing f (modeSet n) h i r z = other-modes-decide-nothing f n h (λ q. z (ap modeSet q))
 inside-decides-nothing f (limitsSet t o u) h i r z = refl
 inside-decides-nothing f (clockSet n) h i r z = refl
 inside-decides-nothing f (occurred x) h i r z = refl
@@ -228,6 +262,9 @@ inside-decides-nothing f (logCleared n) h i r z = refl
 pub stands-split : (s : WhichRegister) (b : ℕ) (h : History) → (stands s b h ≡ true) ↔ Ongoing (raises s b) (λ e h. clears s b e) h
 unfolding stands
 stands-split s b = ongoing-split (raises s b) (λ e h. clears s b e) (stands s b) refl (λ e h. refl)
+
+pub register-bits : (s : WhichRegister) (b : ℕ) (h : History) → b < 32 → bit (bitsOf s h) b ≡ stands s b h
+register-bits s b h = bit-number 32 (λ b. stands s b h) b
 
 -- ---- 'the .. lines owed by the call rules since that log was last cleared, its 255 included'
 clears-not : (n : ℕ) (e : Effect) → e ≢ logCleared n → clearsLog n e ≡ false
@@ -253,11 +290,14 @@ clears-only n (bitsCleared s m) q = absurd (false≢true q)
 clears-only n (logCleared m) q = ap logCleared (sym (eqb-true n m q))
 
 -- call 14: 'it then holds one line 255'
-pub owed-cleared : (f : Fresh) (n : ℕ) (before : History) → owed f n (logCleared n ∷ before) ≡ line (clockOf f (logCleared n ∷ before)) 255 ∷ []
+pub owed-cleared : (f : AnyFresh) (n : ℕ) (before : History) → owed f n (logCleared n ∷ before) ≡ line (clockOf f (logCleared n ∷ before)) 255 ∷ []
 unfolding owed
 owed-cleared f n before = rw (eq-eqb n n refl)
 
-owed-more : (f : Fresh) (n : ℕ) (later before : History) → NotCleared n later before → owed f n (later ++ before) ≡ owed f n before ++ owedBetween f n later before
+owed-more :
+    (f : AnyFresh) (n : ℕ) (later before : History)
+    → NotCleared n later before
+    → owed f n (later ++ before) ≡ owed f n before ++ owedBetween f n later before
 unfolding owed owedBetween
 owed-more f n [] before c = sym (append-nil (owed f n before))
 owed-more f n (e ∷ later) before c =
@@ -274,11 +314,15 @@ clearing-some false v q = absurd (some≢none (sym q))
 clearing-none : (n : ℕ) (e : Effect) → given (clearsLog n e) true ≡ none → e ≢ logCleared n
 clearing-none n e q c = some≢none (rw (c, eq-eqb n n refl) at q)
 
-pub owed-split : (f : Fresh) (n : ℕ) (h : History) (ls : List Line) → (owed f n h ≡ ls) ↔ OwedSince f n h ls
+pub owed-split : (f : AnyFresh) (n : ℕ) (h : History) (ls : List Line) → (owed f n h ≡ ls) ↔ OwedSince f n h ls
 unfolding owed
 owed-split f n h ls = (λ e. subst (OwedSince f n h) e (go (latest-or-none (clearing n) h)), from)
   where
-    after : (later before : History) → h ≡ later ++ (logCleared n ∷ before) → NotCleared n later (logCleared n ∷ before) → owed f n h ≡ line (clockOf f (logCleared n ∷ before)) 255 ∷ owedBetween f n later (logCleared n ∷ before)
+    after :
+        (later before : History)
+        → h ≡ later ++ (logCleared n ∷ before)
+        → NotCleared n later (logCleared n ∷ before)
+        → owed f n h ≡ line (clockOf f (logCleared n ∷ before)) 255 ∷ owedBetween f n later (logCleared n ∷ before)
     after later before s c = ap (owed f n) s ∙ owed-more f n later (logCleared n ∷ before) c ∙ rw (owed-cleared f n before)
 
     ever : NotCleared n h [] → owed f n h ≡ owedBetween f n h []

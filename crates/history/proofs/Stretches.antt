@@ -8,42 +8,47 @@ use mathlib.Core.Option.{some}
 use lib.Dec.{leb, leb·zero, leb·suc-zero, leb·suc-suc}
 use lib.IntN.{ℤ}
 use lib.ListN.{length, take, drop, replicate}
-use Rattle.history.specs.Effects.{Fresh, Effect, sampled, requested, modeSet, limitsSet, clockSet, occurred, filterSet, bitsCleared, logCleared}
-use Rattle.history.specs.Last.{History, otherwise, last, limitsOf}
-use Rattle.history.specs.Switch.{given}
-use Rattle.history.specs.Limiter.{Observation, setting, judged, observations, durationOf, duration, sinceSetting, allAre, stretchEnds, exceeded, exceededOf, trailing, runOf}
+use Rattle.history.specs.Effects.{AnyFresh, Effect, sampled, requested, modeSet, limitsSet, clockSet, occurred, filterSet, bitsCleared, logCleared}
+use Rattle.history.specs.Last.{History, otherwise, given, last, limitsOf}
+use Rattle.history.specs.Limiter.{Observation, setting, judged, durationOf, duration, sinceSetting, allAre, stretchEnds, exceeded, trailing, observations, exceededOf, runOf}
 use Rattle.history.specs.Splits.{LatestElse, InForce, FullStretch, stretchAt, Trailing, all, broken}
 use Rattle.history.proofs.Lists.{latest-split}
 
 -- 'Other calls between don't break it': the limiter sees settings and samples alone
-pub others-unseen : (f : Fresh) (e : Effect) (h : History) → ((p : ℤ) → e ≢ sampled p) → ((t : ℤ) (o u : ℕ) → e ≢ limitsSet t o u) → observations f (e ∷ h) ≡ observations f h
+pub others-unseen :
+    (f : AnyFresh) (k : ℕ) (e : Effect) (h : History)
+    → ((ps : List ℤ) → e ≢ sampled ps)
+    → ((ts : List ℤ) (o u : ℕ) → e ≢ limitsSet ts o u)
+    → observations f k (e ∷ h) ≡ observations f k h
 unfolding observations
-others-unseen f (sampled p) h s l = absurd (s p refl)
-others-unseen f (requested q) h s l = refl
-others-unseen f (modeSet n) h s l = refl
-others-unseen f (limitsSet t o u) h s l = absurd (l t o u refl)
-others-unseen f (clockSet n) h s l = refl
-others-unseen f (occurred r) h s l = refl
-others-unseen f (filterSet r n) h s l = refl
-others-unseen f (bitsCleared r n) h s l = refl
-others-unseen f (logCleared n) h s l = refl
+others-unseen f k (sampled ps) h s l = absurd (s ps refl)
+others-unseen f k (requested q) h s l = refl
+others-unseen f k (modeSet n) h s l = refl
+others-unseen f k (limitsSet ts o u) h s l = absurd (l ts o u refl)
+others-unseen f k (clockSet n) h s l = refl
+others-unseen f k (occurred r) h s l = refl
+others-unseen f k (filterSet r n) h s l = refl
+others-unseen f k (bitsCleared r n) h s l = refl
+others-unseen f k (logCleared n) h s l = refl
 
 sample-more : (c : Bool) {os : List Observation} → InForce os → InForce (judged c ∷ os)
-sample-more c i = record { samples = c ∷ i .samples; over = i .over; under = i .under; before = i .before; split = ap (λ (os : List Observation). judged c ∷ os) (i .split) }
+sample-more c i =
+    let split = ap (λ (os : List Observation). judged c ∷ os) (i .split) in
+    record { samples = c ∷ i .samples; over = i .over; under = i .under; before = i .before; split = split }
 
 -- 'A limiter setting is fresh or an accepted call 7': there is always one
-pub in-force : (f : Fresh) (h : History) → InForce (observations f h)
+pub in-force : (f : AnyFresh) (k : ℕ) (h : History) → InForce (observations f k h)
 unfolding observations
-in-force f [] = record { samples = []; over = f .over; under = f .under; before = []; split = refl }
-in-force f (sampled p ∷ h) = sample-more _ (in-force f h)
-in-force f (requested q ∷ h) = in-force f h
-in-force f (modeSet n ∷ h) = in-force f h
-in-force f (limitsSet t o u ∷ h) = record { samples = []; over = o; under = u; before = observations f h; split = refl }
-in-force f (clockSet n ∷ h) = in-force f h
-in-force f (occurred r ∷ h) = in-force f h
-in-force f (filterSet s n ∷ h) = in-force f h
-in-force f (bitsCleared s n ∷ h) = in-force f h
-in-force f (logCleared n ∷ h) = in-force f h
+in-force f k [] = record { samples = []; over = f .over; under = f .under; before = []; split = refl }
+in-force f k (sampled ps ∷ h) = sample-more _ (in-force f k h)
+in-force f k (requested q ∷ h) = in-force f k h
+in-force f k (modeSet n ∷ h) = in-force f k h
+in-force f k (limitsSet ts o u ∷ h) = record { samples = []; over = o; under = u; before = observations f k h; split = refl }
+in-force f k (clockSet n ∷ h) = in-force f k h
+in-force f k (occurred r ∷ h) = in-force f k h
+in-force f k (filterSet s n ∷ h) = in-force f k h
+in-force f k (bitsCleared s n ∷ h) = in-force f k h
+in-force f k (logCleared n ∷ h) = in-force f k h
 
 since-is : (xs : List Bool) (o u : ℕ) (os : List Observation) → sinceSetting (map judged xs ++ (setting o u ∷ os)) ≡ xs
 unfolding sinceSetting
@@ -56,24 +61,26 @@ duration-is b [] o u os = refl
 duration-is b (x ∷ xs) o u os = duration-is b xs o u os
 
 -- the durations in force are those last accepted, else fresh
-durations-last : (f : Fresh) (h : History) (b : Bool) → duration b (observations f h) ≡ durationOf b (limitsOf f h .over) (limitsOf f h .under)
+durations-last : (f : AnyFresh) (k : ℕ) (h : History) (b : Bool) → duration b (observations f k h) ≡ durationOf b (limitsOf f h .over) (limitsOf f h .under)
 unfolding observations duration last
-durations-last f [] b = refl
-durations-last f (sampled p ∷ h) b = durations-last f h b
-durations-last f (requested q ∷ h) b = durations-last f h b
-durations-last f (modeSet n ∷ h) b = durations-last f h b
-durations-last f (limitsSet t o u ∷ h) b = refl
-durations-last f (clockSet n ∷ h) b = durations-last f h b
-durations-last f (occurred r ∷ h) b = durations-last f h b
-durations-last f (filterSet s n ∷ h) b = durations-last f h b
-durations-last f (bitsCleared s n ∷ h) b = durations-last f h b
-durations-last f (logCleared n ∷ h) b = durations-last f h b
+durations-last f k [] b = refl
+durations-last f k (sampled ps ∷ h) b = durations-last f k h b
+durations-last f k (requested q ∷ h) b = durations-last f k h b
+durations-last f k (modeSet n ∷ h) b = durations-last f k h b
+durations-last f k (limitsSet ts o u ∷ h) b = refl
+durations-last f k (clockSet n ∷ h) b = durations-last f k h b
+durations-last f k (occurred r ∷ h) b = durations-last f k h b
+durations-last f k (filterSet s n ∷ h) b = durations-last f k h b
+durations-last f k (bitsCleared s n ∷ h) b = durations-last f k h b
+durations-last f k (logCleared n ∷ h) b = durations-last f k h b
 
-pub in-force-limits : (f : Fresh) (h : History) (i : InForce (observations f h)) → (i .over ≡ limitsOf f h .over) × (i .under ≡ limitsOf f h .under)
-in-force-limits f h i = (same-duration true, same-duration false)
+pub in-force-limits :
+    (f : AnyFresh) (k : ℕ) (h : History) (i : InForce (observations f k h))
+    → (i .over ≡ limitsOf f h .over) × (i .under ≡ limitsOf f h .under)
+in-force-limits f k h i = (same-duration true, same-duration false)
   where
     same-duration : (b : Bool) → durationOf b (i .over) (i .under) ≡ durationOf b (limitsOf f h .over) (limitsOf f h .under)
-    same-duration b = sym (duration-is b (i .samples) (i .over) (i .under) (i .before)) ∙ ap (duration b) (sym (i .split)) ∙ durations-last f h b
+    same-duration b = sym (duration-is b (i .samples) (i .over) (i .under) (i .before)) ∙ ap (duration b) (sym (i .split)) ∙ durations-last f k h b
 
 -- the first d are there and all b
 abbrev allFirst : Bool → ℕ → List Bool → Bool
@@ -98,7 +105,9 @@ all-first b zero ys = rw (leb·zero (length ys))
 all-first b (suc d) ys = rw (leb·suc-suc, same b) (all-first b d ys)
 
 -- whether a stretch ends, by the setting in force
-ends-by : (b : Bool) (xs : List Bool) (o u : ℕ) (os : List Observation) → stretchEnds b (map judged xs ++ (setting o u ∷ os)) ≡ allFirst b (durationOf b o u) xs
+ends-by :
+    (b : Bool) (xs : List Bool) (o u : ℕ) (os : List Observation)
+    → stretchEnds b (map judged xs ++ (setting o u ∷ os)) ≡ allFirst b (durationOf b o u) xs
 ends-by b xs o u os = ap₂ (allFirst b) (duration-is b xs o u os) (since-is xs o u os)
 
 pub stretch-split : (b : Bool) (os : List Observation) → InForce os → (stretchEnds b os ≡ true) ↔ FullStretch b os
@@ -114,7 +123,10 @@ stretch-split b os i = (to, from)
           over = i .over;
           under = i .under;
           before = i .before;
-          split = i .split ∙ ap (λ (xs : List Bool). map judged xs ++ tail) a ∙ rw (map-append judged) (append-assoc (map judged (replicate d b)) (map judged (drop d (i .samples))) tail);
+          split =
+              i .split
+              ∙ ap (λ (xs : List Bool). map judged xs ++ tail) a
+              ∙ rw (map-append judged) (append-assoc (map judged (replicate d b)) (map judged (drop d (i .samples))) tail);
         }
 
     from : FullStretch b os → stretchEnds b os ≡ true
@@ -122,7 +134,9 @@ stretch-split b os i = (to, from)
         let d = durationOf b (s .over) (s .under) in
         let tail = setting (s .over) (s .under) ∷ s .before in
         ap (stretchEnds b) (s .split)
-        ∙ ap (stretchEnds b) (sym (append-assoc (map judged (replicate d b)) (map judged (s .others)) tail) ∙ ap (λ (os : List Observation). os ++ tail) (sym (map-append judged (replicate d b) (s .others))))
+        ∙ ap (stretchEnds b)
+        (sym (append-assoc (map judged (replicate d b)) (map judged (s .others)) tail)
+        ∙ ap (λ (os : List Observation). os ++ tail) (sym (map-append judged (replicate d b) (s .others))))
         ∙ ends-by b (replicate d b ++ s .others) (s .over) (s .under) (s .before)
         ∙ all-first b d (s .others)
 
@@ -170,7 +184,9 @@ trailing-split b xs n = (λ e. subst (Trailing b xs) e (split b xs), from)
     from (broken others q) = ap (trailing b) q ∙ trailing-same b n (not b ∷ others) (stops b others)
 
 -- 'Run counts the trailing samples since the last limiter setting that are over (not Exceeded) or not over (Exceeded)'
-pub run-split : (f : Fresh) (h : History) (i : InForce (observations f h)) (n : ℕ) → (runOf f h ≡ n) ↔ Trailing (not (exceededOf f h)) (i .samples) n
-run-split f h i n =
-    let since : sinceSetting (observations f h) ≡ i .samples = ap sinceSetting (i .split) ∙ since-is (i .samples) (i .over) (i .under) (i .before) in
-    rw since (trailing-split (not (exceededOf f h)) (i .samples) n)
+pub run-split :
+    (f : AnyFresh) (k : ℕ) (h : History) (i : InForce (observations f k h)) (n : ℕ)
+    → (runOf f k h ≡ n) ↔ Trailing (not (exceededOf f k h)) (i .samples) n
+run-split f k h i n =
+    let since : sinceSetting (observations f k h) ≡ i .samples = ap sinceSetting (i .split) ∙ since-is (i .samples) (i .over) (i .under) (i .before) in
+    rw since (trailing-split (not (exceededOf f k h)) (i .samples) n)

@@ -1,4 +1,4 @@
--- The account of a list of calls from a fresh meter.
+-- The account of a list of calls from a fresh meter, with any number of monitored values.
 use Prim.Native.Nat.{ℕ, suc}
 use mathlib.Core.Bool.{Bool, not, _&&_, cond}
 use mathlib.Core.List.{List, [], _∷_, map, reverse}
@@ -7,24 +7,27 @@ use lib.IntN.{ℤ}
 use Rattle.base.specs.Numbers.{held}
 use Rattle.events.specs.Line.{Line}
 use Rattle.events.specs.Table.{EventRow}
-use Rattle.calls.specs.declared.Call.{Call}
-use Rattle.history.specs.Effects.{Fresh, alarms, errors, Reading, refused, accepted, reading}
-use Rattle.history.specs.Last.{History, modeOf, limitsOf, filterOf, clockOf}
-use Rattle.history.specs.Limiter.{exceededOf, runOf}
+use Rattle.history.specs.Effects.{AnyCall, AnyFresh, alarms, errors, Reading, refused, accepted, reading}
+use Rattle.history.specs.Last.{History, modeOf, limitsOf, thresholdOf, filterOf, clockOf}
+use Rattle.history.specs.Limiter.{monitoredValues, exceededOf, runOf}
 use Rattle.history.specs.Switch.{switchOf}
 use Rattle.history.specs.Registers.{bitsOf}
 use Rattle.history.specs.Logs.{logOf}
 
--- what the account holds, in the order of the record
-pub record Account : Type 0 where
+-- what the account holds of a monitored value: 'Exceeded, yes or no. Run', and its threshold
+pub record MonitoredValue : Type 0 where
+  pub threshold : ℤ
+  pub exceeded : Bool
+  pub run : ℕ
+
+-- what the account holds
+pub record AnyAccount : Type 0 where
   pub mode : ℕ
   pub switch : ℕ
   pub openings : ℕ
-  pub threshold : ℤ
   pub over : ℕ
   pub under : ℕ
-  pub exceeded : Bool
-  pub run : ℕ
+  pub monitored : List MonitoredValue
   pub clock : ℕ
   pub alarms : ℕ
   pub alarmFilter : ℕ
@@ -38,13 +41,13 @@ grown (refused n) h = h
 grown (accepted e) h = e ∷ h
 
 -- the accepted calls of a list of calls, both newest first
-unfoldable pub acceptedCalls : List EventRow → Fresh → List Call → History
+unfoldable pub acceptedCalls : List EventRow → AnyFresh → List AnyCall → History
 acceptedCalls rows f [] = []
 acceptedCalls rows f (c ∷ cs) =
     grown (reading rows (modeOf f (acceptedCalls rows f cs)) c) (acceptedCalls rows f cs)
 
 -- the switch after a list of calls, newest first
-abbrev pub switchAfter : List EventRow → Fresh → List Call → ℕ
+abbrev pub switchAfter : List EventRow → AnyFresh → List AnyCall → ℕ
 switchAfter rows f cs = switchOf f (acceptedCalls rows f cs)
 
 -- the switch goes from 1 to another position
@@ -52,23 +55,25 @@ abbrev pub opens : ℕ → ℕ → Bool
 opens before after = eqb before 1 && not (eqb after 1)
 
 -- 'Openings: prefixes with switch 1 whose next call gives another ..' (held in the account)
-unfoldable pub openings : List EventRow → Fresh → List Call → ℕ
+unfoldable pub openings : List EventRow → AnyFresh → List AnyCall → ℕ
 openings rows f [] = 0
 openings rows f (c ∷ cs) =
     cond (opens (switchAfter rows f cs) (switchAfter rows f (c ∷ cs))) (suc (openings rows f cs)) (openings rows f cs)
 
--- the account of a history with a number of openings
-abbrev pub accountOf : Fresh → History → ℕ → Account
-accountOf f h n =
+-- of monitored value k
+abbrev pub monitoredOf : AnyFresh → History → ℕ → MonitoredValue
+monitoredOf f h k = record { threshold = thresholdOf f k h; exceeded = exceededOf f k h; run = runOf f k h }
+
+-- the account of a history with a number of openings, which are counted over the whole list, refused calls too
+abbrev pub accountOf : AnyFresh → History → ℕ → AnyAccount
+accountOf f h opened =
     record {
       mode = modeOf f h;
       switch = switchOf f h;
-      openings = held n;
-      threshold = limitsOf f h .threshold;
+      openings = held opened;
       over = limitsOf f h .over;
       under = limitsOf f h .under;
-      exceeded = exceededOf f h;
-      run = runOf f h;
+      monitored = map (monitoredOf f h) (monitoredValues f);
       clock = clockOf f h;
       alarms = bitsOf alarms h;
       alarmFilter = filterOf alarms h;
@@ -78,9 +83,9 @@ accountOf f h n =
     }
 
 -- the account of a list of calls, newest first
-abbrev pub accountAfter : List EventRow → Fresh → List Call → Account
+abbrev pub accountAfter : List EventRow → AnyFresh → List AnyCall → AnyAccount
 accountAfter rows f cs = accountOf f (acceptedCalls rows f cs) (openings rows f cs)
 
 -- 'Drawn from the list and its fresh settings ..': the list in the order of its calls
-abbrev pub account : List EventRow → Fresh → List Call → Account
-account rows f calls = accountAfter rows f (reverse calls)
+abbrev pub anyAccount : List EventRow → AnyFresh → List AnyCall → AnyAccount
+anyAccount rows f calls = accountAfter rows f (reverse calls)

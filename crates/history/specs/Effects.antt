@@ -1,4 +1,7 @@
--- Accepted calls, by what they ask for; and which calls are refused.
+-- Calls, which of them are refused, and accepted calls by what they ask for: of a meter whose limiter has any number of monitored values. Monitored value
+-- is the Blue Book's word (class 71, attribute 2); document 02 calls them lines. `Any` in a name means with any number of monitored values. A sample brings
+-- a power for each, a limiter setting a threshold for each, in their order. Document 01's meter has one: see OnePhase. In the files of this folder words in
+-- quotes are document 01's unless another is named, and '..' stands for what is left out.
 use Prim.Native.Nat.{ℕ}
 use mathlib.Core.Bool.{_&&_, cond}
 use mathlib.Core.List.{List, [], _∷_}
@@ -6,16 +9,14 @@ use mathlib.Core.Option.{Option, none, some}
 use lib.Dec.{eqb, leb}
 use lib.IntN.{ℤ, pos}
 use lib.Signed.{leZ}
-use Rattle.base.specs.Tests.{within, among}
+use Rattle.base.specs.Tests.{within, among, every}
 use Rattle.events.specs.Line.{isLog}
 use Rattle.events.specs.Table.{EventRow, lookup}
-use Rattle.calls.specs.declared.Call.{Call}
-use Rattle.calls.specs.declared.Call.the-variants.{Sample, RemoteDisconnect, RemoteReconnect, ManualDisconnect, ManualReconnect, SetMode, SetLimiter, SetClock, Event, SetAlarmFilter, SetErrorFilter, ClearAlarms, ClearErrors, ClearLog, Script}
 
--- 'Fresh takes mode, threshold, Over, Under, clock ..'
-pub record Fresh : Type 0 where
+-- 'Fresh takes mode, threshold, Over, Under, clock ..', with a threshold for each monitored value
+pub record AnyFresh : Type 0 where
   pub mode : ℕ
-  pub threshold : ℤ
+  pub thresholds : List ℤ
   pub over : ℕ
   pub under : ℕ
   pub clock : ℕ
@@ -28,12 +29,25 @@ pub data RequestCall : Type 0 where
 pub data WhichRegister : Type 0 where
   alarms errors : WhichRegister
 
+-- the fifteen calls, those alike in one: a request (calls 2 to 5), a filter (10, 11), a clear of bits (12, 13)
+pub data AnyCall : Type 0 where
+  sample : List ℤ → AnyCall
+  request : RequestCall → AnyCall
+  setMode : ℕ → AnyCall
+  setLimiter : List ℤ → ℕ → ℕ → AnyCall
+  setClock : ℕ → AnyCall
+  event : ℕ → AnyCall
+  setFilter : WhichRegister → ℕ → AnyCall
+  clearBits : WhichRegister → ℕ → AnyCall
+  clearLog : ℕ → AnyCall
+  script : ℕ → AnyCall
+
 -- an accepted call; 'Scripts are the calls they name'
 pub data Effect : Type 0 where
-  sampled : ℤ → Effect
+  sampled : List ℤ → Effect
   requested : RequestCall → Effect
   modeSet : ℕ → Effect
-  limitsSet : ℤ → ℕ → ℕ → Effect
+  limitsSet : List ℤ → ℕ → ℕ → Effect
   clockSet : ℕ → Effect
   occurred : EventRow → Effect
   filterSet : WhichRegister → ℕ → Effect
@@ -57,9 +71,9 @@ abbrev pub readRequest : ℕ → RequestCall → Reading
 readRequest m q = cond (among (listedModes q) m) (accepted (requested q)) (refused 2)
 
 -- '.. call 7 | 4 | threshold negative', '.. call 7 | 5 | Over or Under out of range'
-abbrev pub readLimits : ℤ → ℕ → ℕ → Reading
-readLimits t o u =
-    cond (leZ (pos 0) t) (cond (within 1 86400 o && within 1 86400 u) (accepted (limitsSet t o u)) (refused 5)) (refused 4)
+abbrev pub readLimits : List ℤ → ℕ → ℕ → Reading
+readLimits ts o u =
+    cond (every (leZ (pos 0)) ts) (cond (within 1 86400 o && within 1 86400 u) (accepted (limitsSet ts o u)) (refused 5)) (refused 4)
 
 -- 'call 9 | 6 | code not listed'
 abbrev pub readEvent : Option EventRow → Reading
@@ -67,19 +81,14 @@ readEvent none = refused 6
 readEvent (some r) = accepted (occurred r)
 
 -- '.. a call's refusal follows from its numbers and the mode last accepted' (and the event table)
-unfoldable pub reading : List EventRow → ℕ → Call → Reading
-reading rows m (Sample p) = accepted (sampled p)
-reading rows m RemoteDisconnect = readRequest m remoteDisconnect
-reading rows m RemoteReconnect = readRequest m remoteReconnect
-reading rows m ManualDisconnect = readRequest m manualDisconnect
-reading rows m ManualReconnect = readRequest m manualReconnect
-reading rows m (SetMode n) = cond (leb n 6) (accepted (modeSet n)) (refused 1)
-reading rows m (SetLimiter t o u) = readLimits t o u
-reading rows m (SetClock n) = accepted (clockSet n)
-reading rows m (Event c) = readEvent (lookup rows c)
-reading rows m (SetAlarmFilter n) = accepted (filterSet alarms n)
-reading rows m (SetErrorFilter n) = accepted (filterSet errors n)
-reading rows m (ClearAlarms n) = accepted (bitsCleared alarms n)
-reading rows m (ClearErrors n) = accepted (bitsCleared errors n)
-reading rows m (ClearLog n) = cond (isLog n) (accepted (logCleared n)) (refused 7)
-reading rows m (Script n) = cond (eqb n 1) (readRequest m remoteDisconnect) (cond (eqb n 2) (readRequest m remoteReconnect) (refused 3))
+unfoldable pub reading : List EventRow → ℕ → AnyCall → Reading
+reading rows m (sample ps) = accepted (sampled ps)
+reading rows m (request q) = readRequest m q
+reading rows m (setMode n) = cond (leb n 6) (accepted (modeSet n)) (refused 1)
+reading rows m (setLimiter ts o u) = readLimits ts o u
+reading rows m (setClock n) = accepted (clockSet n)
+reading rows m (event c) = readEvent (lookup rows c)
+reading rows m (setFilter s n) = accepted (filterSet s n)
+reading rows m (clearBits s n) = accepted (bitsCleared s n)
+reading rows m (clearLog n) = cond (isLog n) (accepted (logCleared n)) (refused 7)
+reading rows m (script n) = cond (eqb n 1) (readRequest m remoteDisconnect) (cond (eqb n 2) (readRequest m remoteReconnect) (refused 3))

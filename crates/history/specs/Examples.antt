@@ -5,19 +5,20 @@ use mathlib.Core.Bool.{false}
 use mathlib.Core.List.{List, [], _∷_, _++_, map}
 use lib.IntN.{pos, negsuc}
 use lib.ListN.{length, getD, replicate}
-use Rattle.base.specs.Tests.{among}
+use Rattle.base.specs.Tests.{every, any, numbersFrom, gathered, among}
 use Rattle.base.specs.Bits.{bit, number}
 use Rattle.events.specs.Line.{Line, line, newest}
 use Rattle.events.specs.Table.{builtIn, lookup}
 use Rattle.calls.specs.declared.Call.{Call}
 use Rattle.calls.specs.declared.Call.the-variants.{Sample, RemoteDisconnect, ManualReconnect, SetMode, SetLimiter, Event, Script}
-use Rattle.history.specs.Effects.{Fresh, Reading, refused, accepted, reading}
+use Rattle.history.specs.Effects.{Reading, refused, accepted, reading}
 use Rattle.history.specs.Last.{last, samplesSince}
-use Rattle.history.specs.Limiter.{observations, duration, sinceSetting, allAre, exceeded, trailing}
+use Rattle.history.specs.Limiter.{duration, sinceSetting, allAre, exceeded, trailing, observations}
 use Rattle.history.specs.Switch.{spell, switchOf}
 use Rattle.history.specs.Registers.{stands}
 use Rattle.history.specs.Logs.{owed}
-use Rattle.history.specs.Account.{Account, acceptedCalls, openings, account}
+use Rattle.history.specs.Account.{acceptedCalls, openings}
+use Rattle.history.specs.OnePhase.{Fresh, asCall, Account, account}
 
 -- 'Fresh takes mode, threshold, Over, Under, clock ..'
 abbrev pub fresh : ℕ → ℕ → ℕ → ℕ → ℕ → Fresh
@@ -25,7 +26,8 @@ fresh m t o u c = record { mode = m; threshold = pos t; over = o; under = u; clo
 
 -- the account by the built-in table; to unfold it is to unfold what it is made of
 unfoldable pub builtInAccount : Fresh → List Call → Account
-unfolding among bit number newest builtIn lookup reading last samplesSince observations duration sinceSetting allAre exceeded trailing spell switchOf stands owed acceptedCalls openings
+unfolding every any numbersFrom gathered among bit number newest builtIn lookup reading last samplesSince duration sinceSetting allAre exceeded trailing
+    observations spell switchOf stands owed acceptedCalls openings
 builtInAccount f calls = account builtIn f calls
 
 -- '.. refusal or 0 ..'
@@ -35,7 +37,7 @@ refusal (accepted e) = 0
 
 -- the refusal of a call by the mode last accepted before it
 abbrev pub answer : Fresh → List Call → Call → ℕ
-answer f calls c = refusal (reading builtIn (builtInAccount f calls .mode) c)
+answer f calls c = refusal (reading builtIn (builtInAccount f calls .mode) (asCall c))
 
 -- the codes of lines
 abbrev pub codes : List Line → List ℕ
@@ -45,7 +47,7 @@ codes ls = map (λ l. l .code) ls
 abbrev pub exampleSettings : Fresh
 exampleSettings = fresh 5 3000 2 3 1000
 
--- '.. samples 3000, 3001, 3001; call 5; samples 0, −5, 0; call 2; call 5; script 3; script 2; mode 7; mode 0; call 2 ..'
+-- '.. samples 3000, 3001, 3001; call 5; samples 0, −5, 0; call 2; call 5; script 3; script 2; mode 7; mode 0; call 2 ..' (negsuc 4 is −5)
 abbrev pub exampleCalls : List Call
 exampleCalls =
     Sample (pos 3000) ∷ Sample (pos 3001) ∷ Sample (pos 3001) ∷ ManualReconnect ∷ Sample (pos 0) ∷ Sample (negsuc 4) ∷ Sample (pos 0)

@@ -1,4 +1,5 @@
--- One history for each sentence of the account, computed from the account alone.
+-- Histories for the sentences of the account, as lists of calls in their order, refused ones too (scripts and the 33rd line: see Examples); and some of a
+-- meter with two monitored values.
 use Prim.Native.Nat.{ℕ}
 use mathlib.Core.Path.{_≡_}
 use mathlib.Core.Bool.{Bool, true, false}
@@ -7,12 +8,14 @@ use mathlib.Core.List.{List, [], _∷_, _++_, map}
 use lib.IntN.{pos, negsuc}
 use lib.ListN.{getD}
 use Rattle.events.specs.Line.{Line, line}
+use Rattle.events.specs.Table.{builtIn}
 use Rattle.calls.specs.declared.Call.{Call}
 use Rattle.calls.specs.declared.Call.the-variants.{Sample, RemoteDisconnect, RemoteReconnect, ManualDisconnect, ManualReconnect, SetMode, SetLimiter, SetClock, Event, SetAlarmFilter, SetErrorFilter, ClearAlarms, ClearErrors, ClearLog, Script}
-use Rattle.history.specs.Effects.{Fresh, remoteDisconnect, manualDisconnect, manualReconnect, sampled, requested}
+use Rattle.history.specs.Effects.{remoteDisconnect, manualDisconnect, manualReconnect, AnyCall, sample, request, setLimiter, sampled, requested, reading}
 use Rattle.history.specs.Switch.{decides}
-use Rattle.history.specs.Account.{accountOf}
-use Rattle.history.specs.Examples.{fresh, builtInAccount, answer, codes}
+use Rattle.history.specs.Account.{AnyAccount, accountOf, anyAccount}
+use Rattle.history.specs.OnePhase.{Fresh, asFresh}
+use Rattle.history.specs.Examples.{fresh, builtInAccount, refusal, answer, codes}
 
 -- what a call is answered in modes 0 to 6
 abbrev pub answersByMode : Call → List ℕ
@@ -44,6 +47,18 @@ registerValues calls = let a = builtInAccount (fresh 1 3 1 1 1000) calls in (a .
 -- the three logs
 abbrev pub logLines : Fresh → List Call → List (List Line)
 logLines f calls = builtInAccount f calls .logs
+
+-- the account of a meter with two monitored values: mode 5, thresholds 3 and 5, Over and Under, clock 1000
+abbrev pub twoValues : ℕ → ℕ → List AnyCall → AnyAccount
+twoValues o u calls = anyAccount builtIn (record { mode = 5; thresholds = pos 3 ∷ pos 5 ∷ []; over = o; under = u; clock = 1000 }) calls
+
+-- a sample of both
+abbrev pub both : ℕ → ℕ → AnyCall
+both p q = sample (pos p ∷ pos q ∷ [])
+
+-- Exceeded and Run of each, and the disconnect log (log 3: lists are counted from 0)
+abbrev pub limiterShows : AnyAccount → List (Bool × ℕ) × List Line
+limiterShows a = (map (λ m. (m .exceeded, m .run)) (a .monitored), getD (a .logs) 2 [])
 
 -- the histories, by the sentence that each shows
 pub record Histories : Type 0 where
@@ -100,21 +115,22 @@ pub record Histories : Type 0 where
   pub reconnect-outside : switchAfterEach (fresh 1 3 1 1 1000) [] (RemoteReconnect ∷ ManualDisconnect ∷ RemoteReconnect ∷ []) ≡ 1 ∷ 2 ∷ 2 ∷ []
   -- the mode at the time of the call counts, and a change of mode leaves the switch
   pub mode-at-the-call : switchAfterEach (fresh 1 3 1 1 1000) [] (RemoteDisconnect ∷ SetMode 2 ∷ RemoteReconnect ∷ SetMode 3 ∷ []) ≡ 0 ∷ 0 ∷ 1 ∷ 1 ∷ []
-  -- 'Inside one the switch is 0'; the call that ends a spell is not inside it
+  -- 'Inside one the switch is 0'
   pub spell-inside :
       switchAfterEach (fresh 5 3 1 1 1000) []
       (RemoteDisconnect ∷ ManualReconnect ∷ ManualDisconnect ∷ overSample ∷ underSample ∷ SetMode 6 ∷ RemoteDisconnect ∷ [])
       ≡ 0 ∷ 0 ∷ 0 ∷ 0 ∷ 0 ∷ 0 ∷ 0 ∷ []
-  -- 'Calls inside a spell decide nothing': neither the key nor a sample that fires
+  -- 'Calls inside a spell decide nothing': neither a manual request nor a sample that fires
   pub inside-a-spell :
-      map (λ e. decides (fresh 5 3 1 1 1000) e (requested remoteDisconnect ∷ []))
-      (requested manualReconnect ∷ requested manualDisconnect ∷ sampled (pos 4) ∷ [])
+      map (λ e. decides (asFresh (fresh 5 3 1 1 1000)) e (requested remoteDisconnect ∷ []))
+      (requested manualReconnect ∷ requested manualDisconnect ∷ sampled (pos 4 ∷ []) ∷ [])
       ≡ none ∷ none ∷ none ∷ []
+  -- '.. or mode 0': the call that ends a spell is not inside it
   pub spell-ended-by-mode-zero : switchAfterEach (fresh 1 3 1 1 1000) [] (ManualDisconnect ∷ RemoteDisconnect ∷ SetMode 0 ∷ []) ≡ 2 ∷ 0 ∷ 1 ∷ []
   -- openings: a move out of 1 alone, and held
   pub openings-out-of-one :
       builtInAccount (fresh 2 3 1 1 1000) (ManualDisconnect ∷ RemoteDisconnect ∷ RemoteReconnect ∷ RemoteDisconnect ∷ []) .openings ≡ 2
-  pub openings-held : accountOf (fresh 2 3 1 1 1000) [] 4294967296 .openings ≡ 4294967295
+  pub openings-held : accountOf (asFresh (fresh 2 3 1 1 1000)) [] 4294967296 .openings ≡ 4294967295
   -- 'an event raised it': codes 6 and 16 have bits 0 and 11 in both registers, code 40 has alarm bit 13, code 1 has none
   pub raised : registerValues (Event 6 ∷ Event 16 ∷ Event 40 ∷ Event 1 ∷ []) ≡ (10241, 0, 2049, 0)
   -- 'A bit that is one in the filter at that moment is hidden and not set'
@@ -153,7 +169,7 @@ pub record Histories : Type 0 where
   pub lines-since-clear :
       logLines (fresh 1 3 1 1 1000) (Event 1 ∷ Event 41 ∷ ClearLog 1 ∷ Sample (pos 0) ∷ Event 2 ∷ ClearLog 3 ∷ [])
       ≡ (line 1000 255 ∷ line 1001 2 ∷ []) ∷ (line 1000 41 ∷ []) ∷ (line 1001 255 ∷ []) ∷ []
-  -- 'refused calls count for nothing', 'a list may be empty'
+  -- 'refused calls count for nothing', 'A list may be empty'
   pub refused-counts-nothing :
       builtInAccount (fresh 3 3 1 1 1000) (SetMode 7 ∷ ManualDisconnect ∷ SetLimiter (negsuc 0) 1 1 ∷ Event 3 ∷ ClearLog 0 ∷ Script 3 ∷ [])
       ≡ builtInAccount (fresh 3 3 1 1 1000) []
@@ -175,3 +191,25 @@ pub record Histories : Type 0 where
         errorFilter = 0;
         logs = [] ∷ [] ∷ [] ∷ [];
       }
+  -- document 02: '.. the account holds a stretch and run for each ..' (its 'line' is a monitored value, here one of two), each by its own threshold
+  pub several-stretches :
+      map (λ calls. limiterShows (twoValues 2 2 calls)) ((both 4 4 ∷ []) ∷ (both 4 9 ∷ both 0 9 ∷ both 9 9 ∷ []) ∷ [])
+      ≡ ((false, 1) ∷ (false, 0) ∷ [], []) ∷ ((false, 1) ∷ (true, 0) ∷ [], line 1002 65 ∷ line 1002 64 ∷ []) ∷ []
+  -- document 02: 'Each firing logs 65 or 66 in line order; .. g is tried once if a line fired over, h once if a line fired under and none remains exceeded'
+  pub several-firings :
+      getD (twoValues 1 1 (both 9 9 ∷ both 0 9 ∷ both 0 0 ∷ both 9 0 ∷ request manualReconnect ∷ both 0 9 ∷ []) .logs) 2 []
+      ≡ line 1001 65 ∷ line 1001 65 ∷ line 1001 64
+      ∷ line 1002 66
+      ∷ line 1003 66 ∷ line 1003 69
+      ∷ line 1004 65 ∷ line 1004 64 ∷ line 1004 61
+      ∷ line 1005 66 ∷ line 1005 65 ∷ line 1005 64
+      ∷ []
+  -- document 02: 'Fresh and call 7 take four thresholds, 4 if one is negative ..'; here two
+  pub several-thresholds :
+      map (λ ts. refusal (reading builtIn 5 (setLimiter ts 1 1)))
+      ((pos 0 ∷ pos 0 ∷ []) ∷ (pos 0 ∷ negsuc 0 ∷ []) ∷ (negsuc 0 ∷ pos 0 ∷ []) ∷ (negsuc 0 ∷ negsuc 0 ∷ []) ∷ [])
+      ≡ 0 ∷ 4 ∷ 4 ∷ 4 ∷ []
+  -- document 02: '.. call 7 sets each Run 0 and logs one 67'
+  pub several-runs :
+      map (λ calls. limiterShows (twoValues 3 3 (both 9 9 ∷ both 9 9 ∷ calls))) ([] ∷ (setLimiter (pos 0 ∷ pos 0 ∷ []) 3 3 ∷ []) ∷ [])
+      ≡ ((false, 2) ∷ (false, 2) ∷ [], []) ∷ ((false, 0) ∷ (false, 0) ∷ [], line 1002 67 ∷ []) ∷ []

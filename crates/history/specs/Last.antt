@@ -1,11 +1,13 @@
 -- 'Mode, limiter settings, filters: last accepted, else fresh (filters 0). Clock: last set, else fresh, plus samples since, held as above.'
 -- A history is a list of accepted calls, the newest first.
 use Prim.Native.Nat.{ℕ, suc, _+_}
+use mathlib.Core.Bool.{Bool, true, false}
 use mathlib.Core.List.{List, [], _∷_}
 use mathlib.Core.Option.{Option, none, some}
-use lib.IntN.{ℤ}
+use lib.IntN.{ℤ, pos}
+use lib.ListN.{getD}
 use Rattle.base.specs.Numbers.{held}
-use Rattle.history.specs.Effects.{Fresh, WhichRegister, alarms, errors, Effect, sampled, requested, modeSet, limitsSet, clockSet, occurred, filterSet, bitsCleared, logCleared}
+use Rattle.history.specs.Effects.{AnyFresh, WhichRegister, alarms, errors, Effect, sampled, requested, modeSet, limitsSet, clockSet, occurred, filterSet, bitsCleared, logCleared}
 
 -- accepted calls, the newest first
 abbrev pub History : Type 0
@@ -15,6 +17,11 @@ History = List Effect
 abbrev pub otherwise : {A : Type 0} → Option A → A → A
 otherwise none a = a
 otherwise (some b) a = b
+
+-- a, if the test passes
+abbrev pub given : {A : Type 0} → Bool → A → Option A
+given true a = some a
+given false a = none
 
 -- what the newest call at which `pick` gives something gives, else a; `pick` sees a call and those before it
 unfoldable pub last : {A : Type 0} → (Effect → History → Option A) → A → History → A
@@ -34,25 +41,25 @@ modeIn (bitsCleared s n) h = none
 modeIn (logCleared n) h = none
 
 -- 'Mode ..: last accepted, else fresh ..'
-abbrev pub modeOf : Fresh → History → ℕ
+abbrev pub modeOf : AnyFresh → History → ℕ
 modeOf f h = last modeIn (f .mode) h
 
 -- the limiter settings: 'A limiter setting is fresh or an accepted call 7'
 pub record Limits : Type 0 where
-  pub threshold : ℤ
+  pub thresholds : List ℤ
   pub over : ℕ
   pub under : ℕ
 
--- a limiter setting of these three numbers: 'Set limiter (threshold, Over, Under) ..'
-abbrev pub limits : ℤ → ℕ → ℕ → Limits
-limits t o u = record { threshold = t; over = o; under = u }
+-- a limiter setting of these numbers: 'Set limiter (threshold, Over, Under) ..', with a threshold for each monitored value
+abbrev pub limits : List ℤ → ℕ → ℕ → Limits
+limits ts o u = record { thresholds = ts; over = o; under = u }
 
 -- the limiter setting of a call: '.. an accepted call 7'
 abbrev pub limitsIn : Effect → History → Option Limits
 limitsIn (sampled p) h = none
 limitsIn (requested q) h = none
 limitsIn (modeSet n) h = none
-limitsIn (limitsSet t o u) h = some (limits t o u)
+limitsIn (limitsSet ts o u) h = some (limits ts o u)
 limitsIn (clockSet n) h = none
 limitsIn (occurred r) h = none
 limitsIn (filterSet s n) h = none
@@ -60,15 +67,23 @@ limitsIn (bitsCleared s n) h = none
 limitsIn (logCleared n) h = none
 
 -- '.. limiter settings ..: last accepted, else fresh ..'
-abbrev pub limitsOf : Fresh → History → Limits
-limitsOf f h = last limitsIn (limits (f .threshold) (f .over) (f .under)) h
+abbrev pub limitsOf : AnyFresh → History → Limits
+limitsOf f h = last limitsIn (limits (f .thresholds) (f .over) (f .under)) h
 
--- a, if the two registers are the same
-abbrev pub ofRegister : {A : Type 0} → WhichRegister → WhichRegister → A → Option A
-ofRegister alarms alarms a = some a
-ofRegister alarms errors a = none
-ofRegister errors alarms a = none
-ofRegister errors errors a = some a
+-- what a list with one number for each monitored value has for the k-th, counted from 0; 0 if it has none
+abbrev pub numberAt : List ℤ → ℕ → ℤ
+numberAt zs k = getD zs k (pos 0)
+
+-- the threshold of monitored value k
+abbrev pub thresholdOf : AnyFresh → ℕ → History → ℤ
+thresholdOf f k h = numberAt (limitsOf f h .thresholds) k
+
+-- the two registers are the same
+abbrev pub sameRegister : WhichRegister → WhichRegister → Bool
+sameRegister alarms alarms = true
+sameRegister alarms errors = false
+sameRegister errors alarms = false
+sameRegister errors errors = true
 
 -- the filter that a call sets for a register: 'Set alarm, error filter'
 abbrev pub filterIn : WhichRegister → Effect → History → Option ℕ
@@ -78,7 +93,7 @@ filterIn s (modeSet n) h = none
 filterIn s (limitsSet t o u) h = none
 filterIn s (clockSet n) h = none
 filterIn s (occurred r) h = none
-filterIn s (filterSet s′ n) h = ofRegister s s′ n
+filterIn s (filterSet s′ n) h = given (sameRegister s s′) n
 filterIn s (bitsCleared s′ n) h = none
 filterIn s (logCleared n) h = none
 
@@ -112,5 +127,5 @@ samplesSince (bitsCleared s n ∷ h) = samplesSince h
 samplesSince (logCleared n ∷ h) = samplesSince h
 
 -- 'Clock: last set, else fresh, plus samples since, held as above'
-abbrev pub clockOf : Fresh → History → ℕ
+abbrev pub clockOf : AnyFresh → History → ℕ
 clockOf f h = held (last clockIn (f .clock) h + samplesSince h)

@@ -1,32 +1,47 @@
--- What holds of the account: each of its computed parts is the sentence of document 01 that it stands for, as a split of the history.
+-- What holds of the account: its parts that speak of a last or latest call are the sentences of document 01, as splits of the history; the others are
+-- plain in their definitions.
 -- Lists of calls are the newest first.
-use Prim.Native.Nat.{ℕ, suc}
+use Prim.Native.Nat.{ℕ, suc, _<_}
 use mathlib.Core.Path.{_≡_}
-use mathlib.Core.Bool.{Bool, true, false, not, cond}
-use mathlib.Core.List.{List, [], _∷_}
+use mathlib.Core.Bool.{Bool, true, false, not, _&&_, cond}
+use mathlib.Core.List.{List, [], _∷_, _++_}
 use mathlib.Core.Logic.{_↔_, _≢_}
 use mathlib.Core.Option.{none, some}
+use lib.Dec.{eqb}
 use lib.IntN.{ℤ}
+use lib.ListN.{length}
+use Rattle.base.specs.Bits.{bit}
 use Rattle.base.specs.Tests.{among}
-use Rattle.events.specs.Line.{Line}
+use Rattle.events.specs.Line.{Line, line}
 use Rattle.events.specs.Table.{EventRow}
-use Rattle.calls.specs.declared.Call.{Call}
-use Rattle.history.specs.Effects.{Fresh, remoteReconnect, WhichRegister, Effect, sampled, requested, modeSet, limitsSet, refused, reading}
-use Rattle.history.specs.Last.{History, modeIn, modeOf, Limits, limits, limitsIn, limitsOf, filterIn, filterOf, clockOf}
-use Rattle.history.specs.Limiter.{Observation, observations, stretchEnds, exceededOf, runOf}
+use Rattle.history.specs.Effects.{AnyFresh, AnyCall, remoteReconnect, manualDisconnect, manualReconnect, WhichRegister, Effect, sampled, requested, modeSet, limitsSet, refused, reading}
+use Rattle.history.specs.Last.{History, given, modeIn, modeOf, Limits, limits, limitsIn, limitsOf, filterIn, filterOf, clockOf}
+use Rattle.history.specs.Limiter.{Observation, stretchEnds, firesOver, firesUnder, observations, exceededOf, runOf}
 use Rattle.history.specs.Switch.{spell, decides, switchOf}
-use Rattle.history.specs.Registers.{raises, clears, stands}
-use Rattle.history.specs.Logs.{owed}
-use Rattle.history.specs.Splits.{LatestElse, Ongoing, ClockSince, InSpell, OwedSince, InForce, FullStretch, stretchAt, Trailing}
+use Rattle.history.specs.Registers.{raises, clears, stands, bitsOf}
+use Rattle.history.specs.Logs.{when, moves, owedBy, owed}
+use Rattle.history.specs.Splits.{LatestElse, Ongoing, ClockSince, InSpell, OwedSince, openingPrefixes, InForce, FullStretch, stretchAt, Trailing}
 use Rattle.history.specs.Account.{acceptedCalls, opens, openings, accountOf, accountAfter}
 
 -- 'Openings: prefixes with switch 1 whose next call gives another ..', counted over accepted calls
-unfoldable pub openingsOf : Fresh → History → ℕ
+unfoldable pub openingsOf : AnyFresh → History → ℕ
 openingsOf f [] = 0
 openingsOf f (e ∷ h) = cond (opens (switchOf f h) (switchOf f (e ∷ h))) (suc (openingsOf f h)) (openingsOf f h)
 
+-- 'A sample that changes Exceeded is a firing, over ..', of the first monitored value
+abbrev pub overFiring : AnyFresh → List ℤ → History → Bool
+overFiring f ps h = firesOver (observations f 0 h) (observations f 0 (sampled ps ∷ h))
+
+-- '.. or under'
+abbrev pub underFiring : AnyFresh → List ℤ → History → Bool
+underFiring f ps h = firesUnder (observations f 0 h) (observations f 0 (sampled ps ∷ h))
+
+-- a line that bears 'the clock after the call'
+abbrev pub lineAfter : AnyFresh → List ℤ → History → ℕ → Line
+lineAfter f ps h c = line (clockOf f (sampled ps ∷ h)) c
+
 -- the sentences of 'The history account', of a fresh meter's account
-pub record LawsOf (f : Fresh) : Type 0 where
+pub record LawsOf (f : AnyFresh) : Type 0 where
   -- 'Mode ..: last accepted, else fresh ..'
   pub modeLast :
       (h : History) (m : ℕ)
@@ -34,7 +49,7 @@ pub record LawsOf (f : Fresh) : Type 0 where
   -- '.. limiter settings ..: last accepted, else fresh ..'
   pub limitsLast :
       (h : History) (l : Limits)
-      → (limitsOf f h ≡ l) ↔ LatestElse limitsIn (limits (f .threshold) (f .over) (f .under)) h l
+      → (limitsOf f h ≡ l) ↔ LatestElse limitsIn (limits (f .thresholds) (f .over) (f .under)) h l
   -- '.. filters: last accepted, else .. (filters 0)'
   pub filterLast :
       (s : WhichRegister) (h : History) (n : ℕ)
@@ -71,6 +86,25 @@ pub record LawsOf (f : Fresh) : Type 0 where
       (h : History)
       → ¬ InSpell h
       → decides f (requested remoteReconnect) h ≡ none
+  -- '.. manual reconnect .. give 1; manual disconnect .. give 2': outside a spell
+  pub manualDecides :
+      (h : History)
+      → ¬ InSpell h
+      → (decides f (requested manualReconnect) h ≡ some 1) × (decides f (requested manualDisconnect) h ≡ some 2)
+  -- 'Other mode changes leave the switch'
+  pub otherModesDecideNothing :
+      (n : ℕ) (h : History)
+      → n ≢ 0
+      → decides f (modeSet n) h ≡ none
+  -- '.. the last deciding call ..': samples, modes, remote reconnects and manual requests may decide, no others
+  pub othersDecideNothing :
+      (e : Effect) (h : History)
+      → ((powers : List ℤ) → e ≢ sampled powers)
+      → ((n : ℕ) → e ≢ modeSet n)
+      → e ≢ requested remoteReconnect
+      → e ≢ requested manualDisconnect
+      → e ≢ requested manualReconnect
+      → decides f e h ≡ none
   -- 'Calls inside a spell decide nothing': all but the two that end it
   pub insideDecidesNothing :
       (e : Effect) (h : History)
@@ -82,20 +116,25 @@ pub record LawsOf (f : Fresh) : Type 0 where
   pub bitStands :
       (s : WhichRegister) (b : ℕ) (h : History)
       → (stands s b h ≡ true) ↔ Ongoing (raises s b) (λ e h. clears s b e) h
-  -- 'A limiter setting is fresh or an accepted call 7': there is always one in force
+  -- 'Alarm and error register .. (32 bits)': bit b of the register is one if it stands, else zero
+  pub registerBits :
+      (s : WhichRegister) (b : ℕ) (h : History)
+      → b < 32
+      → bit (bitsOf s h) b ≡ stands s b h
+  -- 'A limiter setting is fresh or an accepted call 7': there is always one in force, for each monitored value
   pub settingInForce :
-      (h : History)
-      → InForce (observations f h)
+      (k : ℕ) (h : History)
+      → InForce (observations f k h)
   -- '.. by the settings in force at that sample ..': its Over and Under are those last accepted, else fresh
   pub limitsInForce :
-      (h : History) (i : InForce (observations f h))
+      (k : ℕ) (h : History) (i : InForce (observations f k h))
       → (i .over ≡ limitsOf f h .over) × (i .under ≡ limitsOf f h .under)
   -- 'Other calls between don't break it'
   pub othersUnseen :
-      (e : Effect) (h : History)
-      → ((p : ℤ) → e ≢ sampled p)
-      → ((t : ℤ) (o u : ℕ) → e ≢ limitsSet t o u)
-      → observations f (e ∷ h) ≡ observations f h
+      (k : ℕ) (e : Effect) (h : History)
+      → ((ps : List ℤ) → e ≢ sampled ps)
+      → ((ts : List ℤ) (o u : ℕ) → e ≢ limitsSet ts o u)
+      → observations f k (e ∷ h) ≡ observations f k h
   -- 'A full over stretch ends at a sample if ..; a full under stretch likewise ..'
   pub fullStretch :
       (b : Bool) (os : List Observation)
@@ -103,30 +142,51 @@ pub record LawsOf (f : Fresh) : Type 0 where
       → (stretchEnds b os ≡ true) ↔ FullStretch b os
   -- 'Exceeded is yes if the latest full stretch, under any settings, was over; no if it was under or there is none'
   pub exceededLatest :
-      (h : History) (b : Bool)
-      → (exceededOf f h ≡ b) ↔ LatestElse stretchAt false (observations f h) b
+      (k : ℕ) (h : History) (b : Bool)
+      → (exceededOf f k h ≡ b) ↔ LatestElse stretchAt false (observations f k h) b
   -- 'Run counts the trailing samples since the last limiter setting that are over (not Exceeded) or not over (Exceeded)'
   pub runTrailing :
-      (h : History) (i : InForce (observations f h)) (n : ℕ)
-      → (runOf f h ≡ n) ↔ Trailing (not (exceededOf f h)) (i .samples) n
+      (k : ℕ) (h : History) (i : InForce (observations f k h)) (n : ℕ)
+      → (runOf f k h ≡ n) ↔ Trailing (not (exceededOf f k h)) (i .samples) n
   -- '.. lines owed by the call rules since that log was last cleared, its 255 included ..'
   pub owedLines :
       (n : ℕ) (h : History) (ls : List Line)
       → (owed f n h ≡ ls) ↔ OwedSince f n h ls
-  -- 'Openings: prefixes with switch 1 whose next call gives another ..': the whole list's are those of its accepted calls
+  -- 'Openings: prefixes with switch 1 whose next call gives another ..': their number
+  pub openingsCountPrefixes :
+      (rows : List EventRow) (cs : List AnyCall)
+      → openings rows f cs ≡ length (openingPrefixes rows f cs)
+  -- '.. refused calls count for nothing ..': the whole list's openings are those of its accepted calls
   pub openingsAccepted :
-      (rows : List EventRow) (cs : List Call)
+      (rows : List EventRow) (cs : List AnyCall)
       → openings rows f cs ≡ openingsOf f (acceptedCalls rows f cs)
   -- '.. refused calls count for nothing ..': the account is that of the accepted calls alone
   pub accountAccepted :
-      (rows : List EventRow) (cs : List Call)
+      (rows : List EventRow) (cs : List AnyCall)
       → accountAfter rows f cs ≡ accountOf f (acceptedCalls rows f cs) (openingsOf f (acceptedCalls rows f cs))
   -- '.. refused calls count for nothing ..': a refused call leaves the account as it was
   pub refusedNothing :
-      (rows : List EventRow) (c : Call) (cs : List Call) (n : ℕ)
+      (rows : List EventRow) (c : AnyCall) (cs : List AnyCall) (n : ℕ)
       → reading rows (modeOf f (acceptedCalls rows f cs)) c ≡ refused n
       → accountAfter rows f (c ∷ cs) ≡ accountAfter rows f cs
 
--- of every fresh meter
+-- with one monitored value a sample decides and owes what document 01 says of its firing, over or under
+pub record OneMonitoredValue (f : AnyFresh) : Type 0 where
+  -- '.. under firing in mode 5 or 6 .. give 1; .. over firing outside mode 0 .. give 2. Calls inside a spell decide nothing'
+  pub sampleDecides :
+      (ps : List ℤ) (h : History)
+      → decides f (sampled ps) h
+      ≡ cond (spell h) none
+      (cond (overFiring f ps h && not (eqb (modeOf f h) 0)) (some 2)
+      (given (underFiring f ps h && among (5 ∷ 6 ∷ []) (modeOf f h)) 1))
+  -- '.. log 65, then g is tried', '.. log 66, then h is tried': 'g .. 64', 'h .. 69'
+  pub sampleOwes :
+      (n : ℕ) (ps : List ℤ) (h : History)
+      → owedBy f n (sampled ps) h
+      ≡ when (eqb n 3)
+      (when (overFiring f ps h) (lineAfter f ps h 65 ∷ when (moves f (sampled ps) h) (lineAfter f ps h 64 ∷ []))
+      ++ when (underFiring f ps h) (lineAfter f ps h 66 ∷ when (moves f (sampled ps) h) (lineAfter f ps h 69 ∷ [])))
+
+-- of every fresh meter, and of one with one monitored value
 abbrev pub Laws : Type 0
-Laws = (f : Fresh) → LawsOf f
+Laws = ((f : AnyFresh) → LawsOf f) × ((f : AnyFresh) (t : ℤ) → f .thresholds ≡ t ∷ [] → OneMonitoredValue f)

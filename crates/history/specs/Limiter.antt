@@ -1,41 +1,26 @@
--- Full stretches, Exceeded, firings and Run: what the limiter makes of its settings and samples, by looking back.
+-- Full stretches, Exceeded, Run and firings: what the limiter makes of its settings and samples of one monitored value, by looking back; and
+-- what it sees of each monitored value in a history.
 use Prim.Native.Nat.{ℕ, suc}
 use mathlib.Core.Bool.{Bool, true, false, not, _&&_, cond, Bool·beq}
 use mathlib.Core.List.{List, [], _∷_}
 use lib.Dec.{leb}
 use lib.ListN.{length, take}
 use lib.Signed.{ltZ}
-use Rattle.history.specs.Effects.{Fresh, Effect, sampled, requested, modeSet, limitsSet, clockSet, occurred, filterSet, bitsCleared, logCleared}
-use Rattle.history.specs.Last.{History, limitsOf}
+use Rattle.base.specs.Tests.{numbers}
+use Rattle.history.specs.Effects.{AnyFresh, Effect, sampled, requested, modeSet, limitsSet, clockSet, occurred, filterSet, bitsCleared, logCleared}
+use Rattle.history.specs.Last.{History, thresholdOf, numberAt}
 
--- what the limiter sees: a setting of Over and Under, or a sample, over or not
+-- what the limiter sees of a monitored value: a setting of Over and Under, or a sample, over or not
 pub data Observation : Type 0 where
   setting : ℕ → ℕ → Observation
   judged : Bool → Observation
-
--- '.. by the settings in force at that sample ..': a sample is judged by the threshold last accepted before it
-abbrev pub observed : Fresh → Effect → History → List Observation → List Observation
-observed f (sampled p) h os = judged (ltZ (limitsOf f h .threshold) p) ∷ os
-observed f (requested q) h os = os
-observed f (modeSet n) h os = os
-observed f (limitsSet t o u) h os = setting o u ∷ os
-observed f (clockSet n) h os = os
-observed f (occurred r) h os = os
-observed f (filterSet s n) h os = os
-observed f (bitsCleared s n) h os = os
-observed f (logCleared n) h os = os
-
--- the observations of a history, newest first; 'Other calls between don't break it'
-unfoldable pub observations : Fresh → History → List Observation
-observations f [] = setting (f .over) (f .under) ∷ []
-observations f (e ∷ h) = observed f e h (observations f h)
 
 -- the duration that counts: Over for over samples (true), Under for others (false)
 abbrev pub durationOf : Bool → ℕ → ℕ → ℕ
 durationOf true o u = o
 durationOf false o u = u
 
--- the duration '.. by the settings in force at that sample ..'
+-- the duration '.. by the settings in force at that sample ..' (0 if there is none; there always is one, the fresh one: settingInForce)
 unfoldable pub duration : Bool → List Observation → ℕ
 duration b [] = 0
 duration b (setting o u ∷ os) = durationOf b o u
@@ -65,23 +50,53 @@ exceeded (setting o u ∷ os) = exceeded os
 exceeded (judged b ∷ os) =
     cond (stretchEnds true (judged b ∷ os)) true (cond (stretchEnds false (judged b ∷ os)) false (exceeded os))
 
--- Exceeded after the calls of a history
-abbrev pub exceededOf : Fresh → History → Bool
-exceededOf f h = exceeded (observations f h)
-
--- 'A sample that changes Exceeded is a firing, over ..' ('firing' is document 01's term)
-abbrev pub firesOver : Fresh → Effect → History → Bool
-firesOver f e h = not (exceededOf f h) && exceededOf f (e ∷ h)
-
--- 'A sample that changes Exceeded is a firing, .. or under'
-abbrev pub firesUnder : Fresh → Effect → History → Bool
-firesUnder f e h = exceededOf f h && not (exceededOf f (e ∷ h))
-
 -- how many of the newest samples are, without a break, over (true) or not over (false)
 unfoldable pub trailing : Bool → List Bool → ℕ
 trailing b [] = 0
 trailing b (c ∷ cs) = cond (Bool·beq b c) (suc (trailing b cs)) 0
 
 -- 'Run counts the trailing samples since the last limiter setting that are over (not Exceeded) or not over (Exceeded)'
-abbrev pub runOf : Fresh → History → ℕ
-runOf f h = trailing (not (exceededOf f h)) (sinceSetting (observations f h))
+abbrev pub run : List Observation → ℕ
+run os = trailing (not (exceeded os)) (sinceSetting os)
+
+-- 'A sample that changes Exceeded is a firing, over ..': by the observations before and after it ('firing' is document 01's term)
+abbrev pub firesOver : List Observation → List Observation → Bool
+firesOver before after = not (exceeded before) && exceeded after
+
+-- 'A sample that changes Exceeded is a firing, .. or under'
+abbrev pub firesUnder : List Observation → List Observation → Bool
+firesUnder before after = exceeded before && not (exceeded after)
+
+-- the monitored values, by number: one for each threshold
+abbrev pub monitoredValues : AnyFresh → List ℕ
+monitoredValues f = numbers (length (f .thresholds))
+
+-- what the limiter has seen of each monitored value, newest first
+abbrev pub Observations : Type 0
+Observations = ℕ → List Observation
+
+-- what the limiter has seen of monitored value k after a call, os being what it had seen before it. '.. by the settings in force at that sample ..': a
+-- sample is judged by the threshold last accepted before it. 'Other calls between don't break it'
+abbrev pub observed : AnyFresh → ℕ → Effect → History → List Observation → List Observation
+observed f k (sampled ps) h os = judged (ltZ (thresholdOf f k h) (numberAt ps k)) ∷ os
+observed f k (requested q) h os = os
+observed f k (modeSet n) h os = os
+observed f k (limitsSet ts o u) h os = setting o u ∷ os
+observed f k (clockSet n) h os = os
+observed f k (occurred r) h os = os
+observed f k (filterSet s n) h os = os
+observed f k (bitsCleared s n) h os = os
+observed f k (logCleared n) h os = os
+
+-- what the limiter has seen of monitored value k, newest first: 'A limiter setting is fresh or an accepted call 7'
+unfoldable pub observations : AnyFresh → ℕ → History → List Observation
+observations f k [] = setting (f .over) (f .under) ∷ []
+observations f k (e ∷ h) = observed f k e h (observations f k h)
+
+-- Exceeded of monitored value k
+abbrev pub exceededOf : AnyFresh → ℕ → History → Bool
+exceededOf f k h = exceeded (observations f k h)
+
+-- Run of monitored value k
+abbrev pub runOf : AnyFresh → ℕ → History → ℕ
+runOf f k h = run (observations f k h)

@@ -4,10 +4,11 @@ use Prim.Native.Nat.{ℕ}
 use mathlib.Core.Bool.{Bool, true, false, not, _&&_, cond}
 use mathlib.Core.List.{List, [], _∷_, _++_}
 use lib.Dec.{eqb}
+use Rattle.base.specs.Tests.{gathered}
 use Rattle.events.specs.Line.{Line, line, newest}
-use Rattle.history.specs.Effects.{Fresh, RequestCall, remoteDisconnect, remoteReconnect, manualDisconnect, manualReconnect, WhichRegister, alarms, errors, Effect, sampled, requested, modeSet, limitsSet, clockSet, occurred, filterSet, bitsCleared, logCleared}
+use Rattle.history.specs.Effects.{AnyFresh, RequestCall, remoteDisconnect, remoteReconnect, manualDisconnect, manualReconnect, WhichRegister, alarms, errors, Effect, sampled, requested, modeSet, limitsSet, clockSet, occurred, filterSet, bitsCleared, logCleared}
 use Rattle.history.specs.Last.{History, clockOf}
-use Rattle.history.specs.Limiter.{firesOver, firesUnder}
+use Rattle.history.specs.Limiter.{firesOver, firesUnder, monitoredValues, observations}
 use Rattle.history.specs.Switch.{switchOf}
 
 -- the lines, if the test passes
@@ -16,7 +17,7 @@ when true xs = xs
 when false xs = []
 
 -- the call moves the switch
-abbrev pub moves : Fresh → Effect → History → Bool
+abbrev pub moves : AnyFresh → Effect → History → Bool
 moves f e h = not (eqb (switchOf f h) (switchOf f (e ∷ h)))
 
 -- the line of a request that moves the switch, by where it goes: 'Line in log 3'
@@ -26,6 +27,17 @@ requestCode remoteReconnect to = cond (eqb to 1) 63 59
 requestCode manualDisconnect to = 60
 requestCode manualReconnect to = 61
 
+-- the line of a move that the limiter tries, by where the switch goes: g's or h's
+abbrev pub localCode : ℕ → ℕ
+localCode to = cond (eqb to 1) 69 64
+
+-- the line of a firing of monitored value k: '.. log 65 ..', '.. log 66 ..'
+abbrev pub firingLines : AnyFresh → Effect → History → ℕ → List Line
+firingLines f e h k =
+    let now = clockOf f (e ∷ h) in
+    when (firesOver (observations f k h) (observations f k (e ∷ h))) (line now 65 ∷ [])
+    ++ when (firesUnder (observations f k h) (observations f k (e ∷ h))) (line now 66 ∷ [])
+
 -- '.. standard line 11 or 10 ..'
 abbrev pub clearCode : WhichRegister → ℕ
 clearCode alarms = 11
@@ -33,12 +45,11 @@ clearCode errors = 10
 
 -- the lines that a call owes to log n, oldest first; 'Every line not otherwise described bears the clock after the call',
 -- and call 8's is described: '.. standard line 4 with the old clock ..'
-abbrev pub owedBy : Fresh → ℕ → Effect → History → List Line
-owedBy f n (sampled p) h =
-    let now = clockOf f (sampled p ∷ h) in
+abbrev pub owedBy : AnyFresh → ℕ → Effect → History → List Line
+owedBy f n (sampled ps) h =
     when (eqb n 3)
-    (when (firesOver f (sampled p) h) (line now 65 ∷ when (moves f (sampled p) h) (line now 64 ∷ []))
-    ++ when (firesUnder f (sampled p) h) (line now 66 ∷ when (moves f (sampled p) h) (line now 69 ∷ [])))
+    (gathered (firingLines f (sampled ps) h) (monitoredValues f)
+    ++ when (moves f (sampled ps) h) (line (clockOf f (sampled ps ∷ h)) (localCode (switchOf f (sampled ps ∷ h))) ∷ []))
 owedBy f n (requested q) h =
     when (eqb n 3 && moves f (requested q) h) (line (clockOf f (requested q ∷ h)) (requestCode q (switchOf f (requested q ∷ h))) ∷ [])
 owedBy f n (modeSet m) h = when (eqb n 3 && moves f (modeSet m) h) (line (clockOf f (modeSet m ∷ h)) 63 ∷ [])
@@ -62,10 +73,10 @@ clearsLog n (bitsCleared s m) = false
 clearsLog n (logCleared m) = eqb n m
 
 -- the lines owed since log n was last cleared, oldest first
-unfoldable pub owed : Fresh → ℕ → History → List Line
+unfoldable pub owed : AnyFresh → ℕ → History → List Line
 owed f n [] = []
 owed f n (e ∷ h) = when (not (clearsLog n e)) (owed f n h) ++ owedBy f n e h
 
 -- '.. the newest 32 lines ..'
-abbrev pub logOf : Fresh → ℕ → History → List Line
+abbrev pub logOf : AnyFresh → ℕ → History → List Line
 logOf f n h = newest (owed f n h)

@@ -1,19 +1,22 @@
--- The forms of document 01's sentences that speak of a last or latest call: there is one, and none later. Lists are the newest first.
--- What the account computes by looking back is equal to these, both ways: see Laws.
+-- The forms of document 01's sentences that speak of a last or latest call: there is one, and none later; and the prefixes that are openings.
+-- Lists are the newest first. A split: the list is `later`, then the call, then `before`. What the account computes by looking back is equal to these,
+-- both ways: see Laws.
 use Prim.Native.Nat.{ℕ, suc, _+_}
 use mathlib.Core.Path.{_≡_}
-use mathlib.Core.Bool.{Bool, true, false, not, cond}
+use mathlib.Core.Bool.{Bool, true, false, not, _&&_, cond}
 use mathlib.Core.List.{List, [], _∷_, _++_, map}
 use mathlib.Core.Logic.{_≢_}
 use mathlib.Core.Option.{Option, none, some}
+use lib.Dec.{eqb}
 use lib.ListN.{replicate}
 use Rattle.base.specs.Numbers.{held}
 use Rattle.events.specs.Line.{Line, line}
-use Rattle.history.specs.Effects.{Fresh, remoteDisconnect, remoteReconnect, sampled, requested, modeSet, limitsSet, clockSet, occurred, filterSet, bitsCleared, logCleared}
-use Rattle.history.specs.Last.{History, clockIn, clockOf}
+use Rattle.events.specs.Table.{EventRow}
+use Rattle.history.specs.Effects.{AnyFresh, AnyCall, remoteDisconnect, remoteReconnect, sampled, requested, modeSet, limitsSet, clockSet, occurred, filterSet, bitsCleared, logCleared}
+use Rattle.history.specs.Last.{History, given, clockIn, clockOf}
 use Rattle.history.specs.Limiter.{Observation, setting, judged, durationOf, stretchEnds}
-use Rattle.history.specs.Switch.{given}
 use Rattle.history.specs.Logs.{owedBy}
+use Rattle.history.specs.Account.{switchAfter}
 
 -- what is said of all later calls: P holds at each entry of `later`, with those before it, which are the rest of `later`, then `before`
 pub record Each {A : Type 0} (P : A → List A → Type 0) (later before : List A) : Type 0 where
@@ -64,7 +67,7 @@ samplesIn (bitsCleared s n ∷ h) = samplesIn h
 samplesIn (logCleared n ∷ h) = samplesIn h
 
 -- 'Clock: last set, else fresh, plus samples since, held as above'
-pub data ClockSince (f : Fresh) (h : History) (t : ℕ) : Type 0 where
+pub data ClockSince (f : AnyFresh) (h : History) (t : ℕ) : Type 0 where
   lastSet :
       (later : History) (n : ℕ) (before : History)
       → h ≡ later ++ (clockSet n ∷ before)
@@ -85,7 +88,7 @@ pub record InSpell (h : History) : Type 0 where
   pub noModeZero : Each (λ e h. e ≢ modeSet 0) later (requested remoteDisconnect ∷ before)
 
 -- '.. lines owed by the call rules ..': those that the calls of `later`, made after those of `before`, owe to log n, oldest first
-unfoldable pub owedBetween : Fresh → ℕ → History → History → List Line
+unfoldable pub owedBetween : AnyFresh → ℕ → History → History → List Line
 owedBetween f n [] before = []
 owedBetween f n (e ∷ later) before = owedBetween f n later before ++ owedBy f n e (later ++ before)
 
@@ -94,7 +97,7 @@ abbrev pub NotCleared : ℕ → History → History → Type 0
 NotCleared n later before = Each (λ e h. e ≢ logCleared n) later before
 
 -- '.. lines owed by the call rules since that log was last cleared, its 255 included ..', or since the fresh meter
-pub data OwedSince (f : Fresh) (n : ℕ) (h : History) (ls : List Line) : Type 0 where
+pub data OwedSince (f : AnyFresh) (n : ℕ) (h : History) (ls : List Line) : Type 0 where
   lastClear :
       (later before : History)
       → h ≡ later ++ (logCleared n ∷ before)
@@ -106,7 +109,15 @@ pub data OwedSince (f : Fresh) (n : ℕ) (h : History) (ls : List Line) : Type 0
       → ls ≡ owedBetween f n h []
       → OwedSince f n h ls
 
--- '.. the settings in force ..': the last limiter setting that the limiter saw, and the samples since, newest first
+-- 'Openings: prefixes with switch 1 whose next call gives another ..': those prefixes of a list of calls, refused ones too
+unfoldable pub openingPrefixes : List EventRow → AnyFresh → List AnyCall → List (List AnyCall)
+openingPrefixes rows f [] = []
+openingPrefixes rows f (next ∷ prefix) =
+    cond (eqb (switchAfter rows f prefix) 1 && not (eqb (switchAfter rows f (next ∷ prefix)) 1))
+    (prefix ∷ openingPrefixes rows f prefix)
+    (openingPrefixes rows f prefix)
+
+-- '.. the settings in force ..': the last limiter setting that the limiter saw of a monitored value, and the samples since, newest first
 pub record InForce (os : List Observation) : Type 0 where
   pub samples : List Bool
   pub over : ℕ

@@ -4,15 +4,10 @@ use mathlib.Core.Bool.{Bool, true, false, not, _&&_, cond}
 use mathlib.Core.List.{[], _∷_}
 use mathlib.Core.Option.{Option, none, some}
 use lib.Dec.{eqb}
-use Rattle.base.specs.Tests.{among}
-use Rattle.history.specs.Effects.{Fresh, remoteDisconnect, remoteReconnect, manualDisconnect, manualReconnect, Effect, sampled, requested, modeSet, limitsSet, clockSet, occurred, filterSet, bitsCleared, logCleared}
-use Rattle.history.specs.Last.{History, last, modeOf}
-use Rattle.history.specs.Limiter.{firesOver, firesUnder}
-
--- a, if the test passes
-abbrev pub given : {A : Type 0} → Bool → A → Option A
-given true a = some a
-given false a = none
+use Rattle.base.specs.Tests.{among, any}
+use Rattle.history.specs.Effects.{AnyFresh, remoteDisconnect, remoteReconnect, manualDisconnect, manualReconnect, Effect, sampled, requested, modeSet, limitsSet, clockSet, occurred, filterSet, bitsCleared, logCleared}
+use Rattle.history.specs.Last.{History, given, last, modeOf}
+use Rattle.history.specs.Limiter.{exceeded, firesOver, firesUnder, monitoredValues, Observations, observations}
 
 -- 'A spell runs from an accepted remote disconnect to the next accepted remote reconnect or mode 0': what begins one (true) and what ends it
 -- (false). ('Spell' is document 01's term.)
@@ -34,25 +29,45 @@ spellEdge (logCleared n) h = none
 unfoldable pub spell : History → Bool
 spell h = last spellEdge false h
 
--- '.. fresh, mode 0, manual reconnect, under firing in mode 5 or 6, and a remote reconnect ending a spell in mode 2 or 4 give 1; manual
--- disconnect, over firing outside mode 0, and a remote reconnect ending a spell in another mode give 2. Calls inside a spell decide nothing.'
-abbrev pub decides : Fresh → Effect → History → Option ℕ
-decides f (sampled p) h =
-    cond (spell h) none
-    (cond (firesOver f (sampled p) h && not (eqb (modeOf f h) 0)) (some 2)
-    (given (firesUnder f (sampled p) h && among (5 ∷ 6 ∷ []) (modeOf f h)) 1))
-decides f (requested remoteDisconnect) h = none
-decides f (requested remoteReconnect) h = given (spell h) (cond (among (2 ∷ 4 ∷ []) (modeOf f h)) 1 2)
-decides f (requested manualDisconnect) h = given (not (spell h)) 2
-decides f (requested manualReconnect) h = given (not (spell h)) 1
-decides f (modeSet n) h = given (eqb n 0) 1
-decides f (limitsSet t o u) h = none
-decides f (clockSet n) h = none
-decides f (occurred r) h = none
-decides f (filterSet s n) h = none
-decides f (bitsCleared s n) h = none
-decides f (logCleared n) h = none
+-- '.. on reaching Over, .. then g is tried'; of more monitored values than one (document 02, whose 'line' is a monitored value): '.. g is tried once if a
+-- line fired over ..'. The mode is looked at in firingDecides
+abbrev pub triesDisconnect : AnyFresh → Observations → Observations → Bool
+triesDisconnect f before after = any (λ k. firesOver (before k) (after k)) (monitoredValues f)
+
+-- '.. on reaching Under, .. then h is tried'; of more monitored values than one (document 02, whose 'line' is a monitored value): '.. h once if a line
+-- fired under and none remains exceeded'. The mode is looked at in firingDecides
+abbrev pub triesReconnect : AnyFresh → Observations → Observations → Bool
+triesReconnect f before after =
+    any (λ k. firesUnder (before k) (after k)) (monitoredValues f) && not (any (λ k. exceeded (after k)) (monitoredValues f))
+
+-- what a sample's firings decide: '.. over firing outside mode 0 .. give 2', '.. under firing in mode 5 or 6 .. give 1'; of more monitored values than
+-- one (document 02, whose 'line' is a monitored value): '.. a sample decides the switch only where g or h is tried'
+abbrev pub firingDecides : AnyFresh → History → Observations → Observations → Option ℕ
+firingDecides f h before after =
+    cond (triesDisconnect f before after) (given (not (eqb (modeOf f h) 0)) 2)
+    (given (triesReconnect f before after && among (5 ∷ 6 ∷ []) (modeOf f h)) 1)
+
+-- what a call decides, `bySample` being what a sample's firings decide: '.. fresh, mode 0, manual reconnect, under firing in mode 5 or 6, and a remote
+-- reconnect ending a spell in mode 2 or 4 give 1; manual disconnect, over firing outside mode 0, and a remote reconnect ending a spell in another mode
+-- give 2. Calls inside a spell decide nothing.'
+abbrev pub decidesBy : AnyFresh → Option ℕ → Effect → History → Option ℕ
+decidesBy f bySample (sampled ps) h = cond (spell h) none bySample
+decidesBy f bySample (requested remoteDisconnect) h = none
+decidesBy f bySample (requested remoteReconnect) h = given (spell h) (cond (among (2 ∷ 4 ∷ []) (modeOf f h)) 1 2)
+decidesBy f bySample (requested manualDisconnect) h = given (not (spell h)) 2
+decidesBy f bySample (requested manualReconnect) h = given (not (spell h)) 1
+decidesBy f bySample (modeSet n) h = given (eqb n 0) 1
+decidesBy f bySample (limitsSet ts o u) h = none
+decidesBy f bySample (clockSet n) h = none
+decidesBy f bySample (occurred r) h = none
+decidesBy f bySample (filterSet s n) h = none
+decidesBy f bySample (bitsCleared s n) h = none
+decidesBy f bySample (logCleared n) h = none
+
+-- what a call decides
+abbrev pub decides : AnyFresh → Effect → History → Option ℕ
+decides f e h = decidesBy f (firingDecides f h (λ k. observations f k h) (λ k. observations f k (e ∷ h))) e h
 
 -- 'Inside one the switch is 0. Otherwise the last deciding call rules: fresh .. give 1 ..'
-unfoldable pub switchOf : Fresh → History → ℕ
+unfoldable pub switchOf : AnyFresh → History → ℕ
 switchOf f h = cond (spell h) 0 (last (decides f) 1 h)

@@ -1,7 +1,7 @@
 -- The examples, computed.
 use mathlib.Core.Path.{refl}
 use mathlib.Core.List.{flatMap}
-use Rattle.base.specs.Tests.{among, every, below}
+use Rattle.base.specs.Tests.{among, every, any, below, gathered, eachFrom}
 use Rattle.codec.specs.BigEndian.{be}
 use Rattle.codec.specs.Format.{numAt}
 use Rattle.events.specs.Line.{newest}
@@ -15,8 +15,10 @@ use Rattle.logs.specs.Arrays.{ownCodes, zeroPast, soundLog, soundArrays}
 use Rattle.logs.specs.Layout.{padded, flat, laid, listsOf, soundLogs}
 use Rattle.calls.specs.Calls.{callOf}
 use Rattle.meter.specs.Settings.{freshAnswer}
-use Rattle.meter.specs.Sound.{soundScalars, soundMeter}
-use Rattle.meter.specs.Machine.{requestResult, sampleResult, modeResult, scriptResult, applied, commanded}
+use Rattle.meter.specs.Sound.{soundMeter}
+use Rattle.steps.specs.Scalars.{soundScalars}
+use Rattle.meter.specs.Machine.{applied, commanded}
+use Rattle.machine.specs.Machine.{requestResult, sampleResult, modeResult, scriptResult}
 use Rattle.replay.specs.Listing.{digits, decimal, field, lineBytes}
 use Rattle.listing.specs.Lines.{linesFrom}
 use Rattle.listing.specs.Listing.{listingOf}
@@ -24,6 +26,6 @@ use Rattle.listing.specs.Examples.{Examples}
 
 pub examples : Examples
 unfolding listingOf linesFrom flatMap decimal digits field lineBytes be numAt freshAnswer callOf commanded applied soundMeter soundScalars
-    soundControl soundLimiter soundLogs soundArrays soundLog ownCodes zeroPast padded flat laid listsOf changed newest among every below
-    builtIn lookup besides mayHold switchTable decision modeDecision watched requestResult sampleResult modeResult scriptResult
+    soundControl soundLimiter soundLogs soundArrays soundLog ownCodes zeroPast padded flat laid listsOf changed newest among every any below gathered
+    eachFrom builtIn lookup besides mayHold switchTable decision modeDecision watched requestResult sampleResult modeResult scriptResult
 examples = record { empty = refl; first-cut = refl; bad = refl; refused = refl; cut = refl; taken = refl; worked = refl }

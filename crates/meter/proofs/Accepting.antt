@@ -1,7 +1,7 @@
 -- What fresh accepts and refuses.
 use native.Mathlib.Omega.{arith}
 use mathlib.Core.Path.{_≡_, refl}
-use mathlib.Core.Bool.{true, false, _&&_}
+use mathlib.Core.Bool.{true, false, _&&_, and-true}
 use lib.Dec.{leb}
 use lib.IntN.{pos}
 use lib.Signed.{leZ}
@@ -10,12 +10,12 @@ use Rattle.base.proofs.Bools.{and-left, and-right}
 use Rattle.limiter.specs.Limiter.{isDuration}
 use Rattle.calls.specs.declared.Answer.{Answer}
 use Rattle.calls.specs.declared.Answer.the-variants.{Accepted, Refused}
-use Rattle.history.specs.Effects.{Fresh}
+use Rattle.history.specs.OnePhase.{Fresh}
 use Rattle.meter.specs.declared.Outcome.{Outcome}
 use Rattle.meter.specs.State.{recordOf}
 use Rattle.meter.specs.Fresh.{freshState, leastSettings, refusedOutcome, settingsBy, freshOf, FreshLaws}
 use Rattle.meter.specs.Settings.{freshAnswer, Settings, SettingsInRange}
-use Rattle.meter.proofs.Answers.{either}
+use Rattle.machine.proofs.Answers.{either}
 
 -- a fact of what fresh makes of settings, from a proof for each of its cases
 by-cases : (P : Outcome → Type 0) (f : Fresh)
@@ -28,7 +28,8 @@ by-cases : (P : Outcome → Type 0) (f : Fresh)
 unfolding freshAnswer
 by-cases P f one four five rest =
     either made (leb (f .mode) 6)
-    (λ m. either made (leZ (pos 0) (f .threshold)) (λ t. either made (isDuration (f .over) && isDuration (f .under)) (rest m t) five) four)
+    (λ m. rw (and-true (leZ (pos 0) (f .threshold)))
+    (either made (leZ (pos 0) (f .threshold)) (λ t. either made (isDuration (f .over) && isDuration (f .under)) (rest m t) five) four))
     one
   where
     made : Answer → Type 0

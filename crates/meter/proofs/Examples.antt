@@ -1,6 +1,6 @@
 -- The examples, each by computing it.
 use mathlib.Core.Path.{refl}
-use Rattle.base.specs.Tests.{among, every, below}
+use Rattle.base.specs.Tests.{among, every, any, below, gathered, eachFrom}
 use Rattle.events.specs.Line.{newest}
 use Rattle.events.specs.Table.{builtIn, lookup}
 use Rattle.events.specs.Codes.{besides, mayHold}
@@ -10,10 +10,15 @@ use Rattle.limiter.specs.Limiter.{watched, soundLimiter}
 use Rattle.logs.specs.Lists.{changed}
 use Rattle.logs.specs.Arrays.{ownCodes, zeroPast, soundLog, soundArrays}
 use Rattle.logs.specs.Layout.{padded, flat, laid, listsOf, soundLogs}
-use Rattle.meter.specs.Sound.{soundScalars, soundMeter}
-use Rattle.meter.specs.Machine.{requestResult, sampleResult, modeResult, limiterResult, eventResult, scriptResult, applied, recordAfter}
+use Rattle.machine.specs.Settings.{limitsAnswer}
+use Rattle.machine.specs.Machine.{requestResult, sampleResult, modeResult, limiterResult, eventResult, scriptResult}
+use Rattle.steps.specs.Scalars.{soundScalars}
+use Rattle.meter.specs.Sound.{soundMeter}
+use Rattle.meter.specs.Machine.{applied, recordAfter}
 use Rattle.meter.specs.Examples.{lineNumbersFrom, Examples}
 
 pub examples : Examples
-unfolding lineNumbersFrom recordAfter applied soundMeter soundScalars soundControl soundLimiter soundLogs soundArrays soundLog ownCodes zeroPast padded flat laid listsOf changed newest among every below builtIn lookup besides mayHold switchTable decision modeDecision watched requestResult sampleResult modeResult limiterResult eventResult scriptResult
+unfolding lineNumbersFrom recordAfter applied soundMeter soundScalars soundControl soundLimiter soundLogs soundArrays soundLog ownCodes zeroPast
+    padded flat laid listsOf changed newest among every any below gathered eachFrom builtIn lookup besides mayHold switchTable decision modeDecision
+    watched requestResult sampleResult modeResult limitsAnswer limiterResult eventResult scriptResult
 examples = record { lines = refl; log = refl; power = refl; taken = refl; refused = refl; full = refl; dropped = refl }

@@ -1,23 +1,16 @@
 -- The laws of the machine, together.
 use mathlib.Core.Path.{_≡_}
 use mathlib.Core.Bool.{true}
-use mathlib.Core.List.{List, [], _∷_, reverseAux}
+use mathlib.Core.List.{List}
 use Rattle.base.specs.Tests.{every}
 use Rattle.events.specs.Table.{EventRow, builtIn, lawful}
 use Rattle.events.proofs.Rule.{built-in-lawful}
-use Rattle.calls.specs.declared.Call.{Call}
-use Rattle.calls.specs.Calls.{AllInRange}
 use Rattle.meter.specs.Laws.{LawsOf, Laws}
 use Rattle.meter.proofs.Values.{record-of-state, state-of-record}
 use Rattle.meter.proofs.Answers.{applied-answer, refused-same, commanded-same}
 use Rattle.meter.proofs.Tail.{in-parts, sound-in-parts, command-in-parts}
 use Rattle.meter.proofs.Preserved.{applied-sound, reached-sound}
 use Rattle.meter.proofs.Simulates.{simulates}
-
--- the calls of a list are in range in either order
-pub turned : (xs ys : List Call) → AllInRange xs → AllInRange ys → AllInRange (reverseAux xs ys)
-turned [] ys i k = k
-turned (c ∷ xs) ys i k = turned xs (c ∷ ys) (i .1) (i .0, k)
 
 laws-of : (rows : List EventRow) → every lawful rows ≡ true → LawsOf rows
 laws-of rows table =

@@ -7,7 +7,8 @@ use Rattle.control.specs.Control.{soundControl}
 use Rattle.limiter.specs.Limiter.{soundLimiter}
 use Rattle.logs.specs.Arrays.{ownCodes, zeroPast, soundLog, soundArrays}
 use Rattle.logs.specs.Layout.{soundLogs}
-use Rattle.meter.specs.Sound.{soundScalars, soundMeter}
+use Rattle.steps.specs.Scalars.{soundScalars}
+use Rattle.meter.specs.Sound.{soundMeter}
 use Rattle.meter.specs.Machine.{applied}
 use Rattle.meter.specs.NearMisses.{NearMisses}
 

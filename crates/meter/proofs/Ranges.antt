@@ -1,84 +1,41 @@
--- The mode, the limiter settings and the filters of a history are in range, since each accepted call's numbers are.
-use Prim.Native.Nat.{ℕ}
-use native.Mathlib.Omega.{arith}
-use mathlib.Core.Path.{_≡_}
-use mathlib.Core.Bool.{true}
-use mathlib.Core.List.{[], _∷_}
-use mathlib.Core.Option.{Option, none, some}
-use lib.Dec.{leb}
-use Rattle.base.specs.Tests.{within}
-use Rattle.calls.specs.Calls.{Word}
-use Rattle.history.specs.Effects.{Fresh, WhichRegister, alarms, errors, Effect, sampled, requested, modeSet, limitsSet, clockSet, occurred, filterSet, bitsCleared, logCleared}
-use Rattle.history.specs.Last.{History, last, otherwise, modeIn, modeOf, Limits, limits, limitsIn, limitsOf, filterIn, filterOf}
+-- Settings and calls in their ranges, as those of a meter with any number of monitored values.
+use mathlib.Core.Path.{_≡_, refl}
+use mathlib.Core.List.{List, [], _∷_, map, reverse, reverseAux}
+use Rattle.base.specs.Tests.{every}
+use Rattle.calls.specs.declared.Call.{Call}
+use Rattle.calls.specs.declared.Call.the-variants.{Sample, RemoteDisconnect, RemoteReconnect, ManualDisconnect, ManualReconnect, SetMode, SetLimiter, SetClock, Event, SetAlarmFilter, SetErrorFilter, ClearAlarms, ClearErrors, ClearLog, Script}
+use Rattle.calls.specs.Calls.{InRange, AllInRange}
+use Rattle.history.specs.Effects.{AnyCall}
+use Rattle.history.specs.OnePhase.{Fresh, asFresh, asCall}
+use Rattle.machine.specs.Ranges.{AnySettings, AnyInRange, AllAnyInRange}
 use Rattle.meter.specs.Settings.{Settings}
-use Rattle.meter.proofs.Effects.{Proper, AllProper, none as noCall, more}
 
-module _ {A : Type 0} (P : A → Type 0) where
-  -- what holds of a value, if there is one
-  abbrev pub IfAny : Option A → Type 0
-  IfAny none = Unit
-  IfAny (some a) = P a
+pub settings : (f : Fresh) → Settings f → AnySettings (asFresh f)
+unfolding every
+settings f s = record { mode = s .mode; thresholds = rw (s .threshold); over = s .over; under = s .under; clock = s .clock }
 
-  otherwise-holds : (o : Option A) (a : A) → IfAny o → P a → P (otherwise o a)
-  otherwise-holds none a g p = p
-  otherwise-holds (some b) a g p = g
+pub call-range : (c : Call) → InRange c → AnyInRange (asCall c)
+unfolding every
+call-range (Sample p) i = tt
+call-range RemoteDisconnect i = tt
+call-range RemoteReconnect i = tt
+call-range ManualDisconnect i = tt
+call-range ManualReconnect i = tt
+call-range (SetMode n) i = tt
+call-range (SetLimiter t o u) i = rw (i .0 .1)
+call-range (SetClock n) i = i
+call-range (Event c) i = tt
+call-range (SetAlarmFilter n) i = i
+call-range (SetErrorFilter n) i = i
+call-range (ClearAlarms n) i = i
+call-range (ClearErrors n) i = i
+call-range (ClearLog n) i = tt
+call-range (Script n) i = tt
 
-  -- what holds of the fresh value and of each that an accepted call gives holds of the last
-  pub last-holds : (pick : Effect → History → Option A) (a : A) (f : Fresh) → P a → ((e : Effect) (h : History) → Proper (modeOf f h) e → IfAny (pick e h)) → (h : History) → AllProper f h → P (last pick a h)
-  unfolding last
-  last-holds pick a f p k [] noCall = p
-  last-holds pick a f p k (e ∷ h) (more g r) = otherwise-holds (pick e h) (last pick a h) (k e h g) (last-holds pick a f p k h r)
+-- each call of a list, newest first
+turned : (cs : List Call) (before : List AnyCall) → AllInRange cs → AllAnyInRange before → AllAnyInRange (reverseAux (map asCall cs) before)
+turned [] before i k = k
+turned (c ∷ cs) before i k = turned cs (asCall c ∷ before) (i .1) (call-range c (i .0), k)
 
--- 'Mode 0–6'
-pub mode-range : (f : Fresh) → Settings f → (h : History) → AllProper f h → leb (modeOf f h) 6 ≡ true
-mode-range f t = last-holds Range modeIn (f .mode) f (t .mode) each
-  where
-    Range : ℕ → Type 0
-    Range n = leb n 6 ≡ true
-
-    each : (e : Effect) (h : History) → Proper (modeOf f h) e → IfAny Range (modeIn e h)
-    each (sampled p) h g = tt
-    each (requested q) h g = tt
-    each (modeSet n) h g = g
-    each (limitsSet t o u) h g = tt
-    each (clockSet n) h g = tt
-    each (occurred r) h g = tt
-    each (filterSet s n) h g = tt
-    each (bitsCleared s n) h g = tt
-    each (logCleared n) h g = tt
-
--- a filter is a number of 32 bits
-pub filter-word : (x : WhichRegister) (f : Fresh) (h : History) → AllProper f h → Word (filterOf x h)
-filter-word x f = last-holds Word (filterIn x) 0 f (omega arith) (each x)
-  where
-    each : (x : WhichRegister) (e : Effect) (h : History) → Proper (modeOf f h) e → IfAny Word (filterIn x e h)
-    each x (sampled p) h g = tt
-    each x (requested q) h g = tt
-    each x (modeSet n) h g = tt
-    each x (limitsSet t o u) h g = tt
-    each x (clockSet n) h g = tt
-    each x (occurred r) h g = tt
-    each alarms (filterSet alarms n) h g = g
-    each alarms (filterSet errors n) h g = tt
-    each errors (filterSet alarms n) h g = tt
-    each errors (filterSet errors n) h g = g
-    each x (bitsCleared s n) h g = tt
-    each x (logCleared n) h g = tt
-
--- 'Over and Under, 1 to 86,400'
-abbrev pub DurationsInRange : Limits → Type 0
-DurationsInRange l = (within 1 86400 (l .over) ≡ true) × (within 1 86400 (l .under) ≡ true)
-
-pub durations-range : (f : Fresh) → Settings f → (h : History) → AllProper f h → DurationsInRange (limitsOf f h)
-durations-range f t = last-holds DurationsInRange limitsIn (limits (f .threshold) (f .over) (f .under)) f (t .over, t .under) each
-  where
-    each : (e : Effect) (h : History) → Proper (modeOf f h) e → IfAny DurationsInRange (limitsIn e h)
-    each (sampled p) h g = tt
-    each (requested q) h g = tt
-    each (modeSet n) h g = tt
-    each (limitsSet t o u) h g = g .1
-    each (clockSet n) h g = tt
-    each (occurred r) h g = tt
-    each (filterSet s n) h g = tt
-    each (bitsCleared s n) h g = tt
-    each (logCleared n) h g = tt
+pub calls-range : (cs : List Call) → AllInRange cs → AllAnyInRange (reverse (map asCall cs))
+calls-range cs i = turned cs [] i tt

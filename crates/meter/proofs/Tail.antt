@@ -22,21 +22,24 @@ use Rattle.calls.specs.declared.Answer.the-variants.{Refused}
 use Rattle.calls.specs.declared.Parsed.{Parsed}
 use Rattle.calls.specs.declared.Parsed.the-variants.{Ok, NoKind}
 use Rattle.calls.specs.Calls.{callOf}
+use Rattle.machine.specs.Machine.{Change, Result, refusing, making}
+use Rattle.steps.specs.declared.Scalars.{Scalars}
+use Rattle.steps.specs.declared.Step.{Step}
+use Rattle.steps.specs.Scalars.{soundScalars}
+use Rattle.steps.specs.Step.{inPlaces, resultOf, stepOf}
 use Rattle.meter.specs.declared.Meter.{Meter}
 use Rattle.meter.specs.declared.Outcome.{Outcome}
-use Rattle.meter.specs.declared.step.Scalars.{Scalars}
-use Rattle.meter.specs.declared.step.Step.{Step}
 use Rattle.meter.specs.State.{scalarsOf, withLogs}
-use Rattle.meter.specs.Sound.{soundScalars, soundMeter}
-use Rattle.meter.specs.Machine.{Change, Result, refusing, making, result, carriedOut, applied, performed, commanded}
-use Rattle.meter.specs.Parts.{inTwo, stepOf, outcomeOf, leftIn, carriedOutInParts, appliedInParts, performedInParts, commandedInParts}
+use Rattle.meter.specs.Sound.{soundMeter}
+use Rattle.meter.specs.Machine.{carriedOut, applied, performed, commanded}
+use Rattle.meter.specs.Parts.{outcomeOf, leftIn, carriedOutInParts, appliedInParts, performedInParts, commandedInParts}
 
 -- ---- the lines of a step, as the code has them
 module _ (f : Line → ℕ) (xs : List Line) where
-  in-two : length xs ≤ length (inTwo (map f xs))
-  in-two = simp (length-append, length-map) (omega arith)
+  in-places : length xs ≤ length (inPlaces (map f xs))
+  in-places = simp (length-append, length-map) (omega arith)
 
-  first-lines : take (length xs) (inTwo (map f xs)) ≡ map f xs
+  first-lines : take (length xs) (inPlaces (map f xs)) ≡ map f xs
   first-lines = take-at (map f xs) _ (length xs) (length-map xs f)
 
 -- ---- the test of the record
@@ -89,10 +92,10 @@ nothing-owed m n = refl
 
 -- what the code leaves of the record: the arrays g₀ after the clear, and g after the lines
 pub finished : (rows : List EventRow) (m : Meter) (c : Call) (s : Step) (g₀ g : Logs)
-    → s ≡ stepOf (scalarsOf m) (result rows (scalarsOf m) c) → g₀ ≡ zeroedArrays (s .cleared) (m .logs)
+    → s ≡ stepOf (scalarsOf m) (resultOf rows (scalarsOf m) c) → g₀ ≡ zeroedArrays (s .cleared) (m .logs)
     → g ≡ extendedArrays (s .log) (take (s .count) (s .clocks)) (take (s .count) (s .codes)) g₀
     → outcomeOf (record { scalars = s .scalars; answer = s .answer }) (g .counts) (g .clocks) (g .codes) ≡ carriedOutInParts rows m c
-finished rows m c s g₀ g steps clears adds = rw (adds, clears, steps) (go (result rows (scalarsOf m) c))
+finished rows m c s g₀ g steps clears adds = rw (adds, clears, steps) (go (resultOf rows (scalarsOf m) c))
   where
     go : (r : Result) → leftBy m (stepOf (scalarsOf m) r) ≡ leftIn m r
     go (refusing n) = nothing-owed m n
@@ -107,7 +110,7 @@ module _ (rows : List EventRow) (m : Meter) where
 
   pub sound-in-parts : (c : Call) → Sized (m .logs) → soundMeter rows m ≡ true → carriedOutInParts rows m c ≡ applied rows m c
   unfolding applied
-  sound-in-parts c z e = rw e (laid-out z e (result rows (scalarsOf m) c))
+  sound-in-parts c z e = rw e (laid-out z e (resultOf rows (scalarsOf m) c))
 
   pub in-parts : (c : Call) → Sized (m .logs) → appliedInParts rows m c ≡ applied rows m c
   unfolding appliedInParts applied
@@ -115,8 +118,8 @@ module _ (rows : List EventRow) (m : Meter) where
     where
       go : (b : Bool) → soundMeter rows m ≡ b
           → cond b (carriedOutInParts rows m c) (record { meter = m; answer = Refused 12 })
-          ≡ cond b (carriedOut m (result rows (scalarsOf m) c)) (record { meter = m; answer = Refused 12 })
-      go true e = laid-out z e (result rows (scalarsOf m) c)
+          ≡ cond b (carriedOut m (resultOf rows (scalarsOf m) c)) (record { meter = m; answer = Refused 12 })
+      go true e = laid-out z e (resultOf rows (scalarsOf m) c)
       go false e = refl
 
   performed-in-parts : (p : Parsed) → Sized (m .logs) → soundMeter rows m ≡ true → performedInParts rows m p ≡ performed rows m p
@@ -131,7 +134,7 @@ module _ (rows : List EventRow) (m : Meter) where
 -- ---- the parts of the two arrays, as long as the count says
 pub lines-room : (s : Step) (t : Scalars) (r : Result) → s ≡ stepOf t r → (s .count ≤ length (s .clocks)) × (s .count ≤ length (s .codes))
 lines-room s t (refusing n) e = rw e (omega arith, omega arith)
-lines-room s t (making k) e = rw e (in-two lineClock (k .lines), in-two lineCode (k .lines))
+lines-room s t (making k) e = rw e (in-places lineClock (k .lines), in-places lineCode (k .lines))
 
 pub part-length : (n : ℕ) (xs : List ℕ) → n ≤ length xs → n ≡ length (take n xs)
 part-length n xs h = sym (length-take-le n xs h)

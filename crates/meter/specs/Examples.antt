@@ -14,7 +14,7 @@ use Rattle.calls.specs.declared.Call.{Call}
 use Rattle.calls.specs.declared.Call.the-variants.{Sample, SetLimiter, Event}
 use Rattle.calls.specs.declared.Answer.the-variants.{Accepted, Refused}
 use Rattle.calls.specs.Calls.{answerNumber}
-use Rattle.history.specs.Effects.{Fresh}
+use Rattle.history.specs.OnePhase.{Fresh}
 use Rattle.history.specs.Examples.{exampleSettings, exampleCalls}
 use Rattle.meter.specs.declared.Meter.{Meter}
 use Rattle.meter.specs.State.{recordOf}
@@ -75,7 +75,8 @@ everySecond c t (suc n) = line t c ∷ everySecond c (suc t) n
 pub record Examples : Type 0 where
   pub lines :
       lineNumbersAt (3 ∷ 4 ∷ 8 ∷ 10 ∷ 12 ∷ 14 ∷ 15 ∷ [])
-      ≡ lineNumbers 3 0 1 0 ∷ lineNumbers 4 0 2 1 ∷ lineNumbers 8 0 1 1 ∷ lineNumbers 10 0 0 2 ∷ lineNumbers 12 0 2 2 ∷ lineNumbers 14 0 1 2 ∷ lineNumbers 15 2 1 2 ∷ []
+      ≡ lineNumbers 3 0 1 0 ∷ lineNumbers 4 0 2 1 ∷ lineNumbers 8 0 1 1 ∷ lineNumbers 10 0 0 2
+      ∷ lineNumbers 12 0 2 2 ∷ lineNumbers 14 0 1 2 ∷ lineNumbers 15 2 1 2 ∷ []
   -- 'Log 3 then: 65, 64, 61 at 1003; 66, 62, 59, 63 at 1006'
   pub log :
       logIn (recordAfter builtIn exampleMeter exampleCalls) 3

@@ -1,31 +1,19 @@
 -- 'Fresh takes mode, threshold, Over, Under, clock: switch 1, not Exceeded, all else zero or empty.'
 use mathlib.Core.Path.{_≡_}
-use mathlib.Core.Bool.{false}
-use mathlib.Core.List.{[], _∷_}
 use Prim.Native.Nat.{ℕ}
 use lib.IntN.{pos}
 use Rattle.calls.specs.declared.Answer.{Answer}
 use Rattle.calls.specs.declared.Answer.the-variants.{Accepted, Refused}
-use Rattle.history.specs.Effects.{Fresh}
+use Rattle.history.specs.OnePhase.{Fresh, asFresh}
+use Rattle.machine.specs.Values.{State}
+use Rattle.machine.specs.Fresh.{freshValues}
 use Rattle.meter.specs.declared.Outcome.{Outcome}
-use Rattle.meter.specs.State.{State, recordOf}
+use Rattle.meter.specs.State.{recordOf}
 use Rattle.meter.specs.Settings.{settingsOf, freshAnswer, Settings, SettingsInRange}
 
 -- 'switch 1, not Exceeded, all else zero or empty'
 abbrev pub freshState : Fresh → State
-freshState f =
-    record {
-      scalars =
-          record {
-            control = record { mode = f .mode; state = 1; openings = 0 };
-            limiter =
-                record { threshold = f .threshold; over = f .over; under = f .under; exceeded = false; run = 0 };
-            clock = f .clock;
-            alarms = record { bits = 0; filter = 0 };
-            errors = record { bits = 0; filter = 0 };
-          };
-      logs = [] ∷ [] ∷ [] ∷ [];
-    }
+freshState f = freshValues (asFresh f)
 
 -- 'mode 0, threshold 0, durations 1, clock 0'
 abbrev pub leastSettings : Fresh

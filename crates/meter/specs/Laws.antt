@@ -3,6 +3,7 @@ use mathlib.Core.Path.{_≡_}
 use mathlib.Core.Bool.{true}
 use mathlib.Core.List.{List}
 use Prim.Native.Nat.{ℕ}
+use lib.ListN.{length}
 use Rattle.base.specs.Tests.{every}
 use Rattle.events.specs.Table.{EventRow, builtIn, lawful}
 use Rattle.logs.specs.Layout.{Sized}
@@ -10,11 +11,13 @@ use Rattle.calls.specs.declared.Call.{Call}
 use Rattle.calls.specs.declared.Answer.{Answer}
 use Rattle.calls.specs.declared.Answer.the-variants.{Accepted, Refused}
 use Rattle.calls.specs.Calls.{InRange, AllInRange}
-use Rattle.history.specs.Effects.{Fresh, Reading, refused, accepted, reading}
-use Rattle.history.specs.Account.{account}
+use Rattle.history.specs.Effects.{Reading, refused, accepted, reading}
+use Rattle.history.specs.OnePhase.{Fresh, asCall, account}
+use Rattle.machine.specs.Sound.{soundState}
+use Rattle.machine.specs.Values.{State}
 use Rattle.meter.specs.declared.Meter.{Meter}
-use Rattle.meter.specs.State.{State, stateOf, recordOf}
-use Rattle.meter.specs.Sound.{soundMeter, soundState}
+use Rattle.meter.specs.State.{stateOf, recordOf}
+use Rattle.meter.specs.Sound.{soundMeter}
 use Rattle.meter.specs.Machine.{applied, commanded, recordAfter}
 use Rattle.meter.specs.Parts.{carriedOutInParts, appliedInParts, commandedInParts}
 use Rattle.meter.specs.Settings.{Settings}
@@ -28,9 +31,9 @@ answerOf (accepted e) = Accepted
 
 -- of soundness, answers and refusals, and of whole lists of calls
 pub record LawsOf (rows : List EventRow) : Type 0 where
-  -- a sound record is the layout of its values, and sound values are those of their layout
+  -- a sound record is the layout of its values, and sound values with one limiter are those of their layout
   pub record-of-state : (m : Meter) → Sized (m .logs) → soundMeter rows m ≡ true → recordOf (stateOf m) ≡ m
-  pub state-of-record : (v : State) → soundState rows v ≡ true → stateOf (recordOf v) ≡ v
+  pub state-of-record : (v : State) → length (v .values .limiters) ≡ 1 → soundState rows v ≡ true → stateOf (recordOf v) ≡ v
   -- every call keeps a sound record sound
   pub kept-sound : (m : Meter) (c : Call) → Sized (m .logs) → InRange c → soundMeter rows m ≡ true
       → soundMeter rows (applied rows m c .meter) ≡ true
@@ -42,14 +45,15 @@ pub record LawsOf (rows : List EventRow) : Type 0 where
       → commandedInParts rows m k n1 n2 n3 n4 n5 ≡ commanded rows m k n1 n2 n3 n4 n5
   -- for a sound record the answer is the one that the account's rule gives: each number comes under its condition only
   pub answers : (m : Meter) (c : Call) → soundMeter rows m ≡ true
-      → applied rows m c .answer ≡ answerOf (reading rows (m .control .mode) c)
+      → applied rows m c .answer ≡ answerOf (reading rows (m .control .mode) (asCall c))
   -- on any refusal the record is the one that came in, of a call and of a command
   pub refused-same : (m : Meter) (c : Call) (n : ℕ) → applied rows m c .answer ≡ Refused n
       → applied rows m c .meter ≡ m
   pub command-refused-same : (m : Meter) (k n1 n2 n3 n4 n5 n : ℕ)
       → commanded rows m k n1 n2 n3 n4 n5 .answer ≡ Refused n → commanded rows m k n1 n2 n3 n4 n5 .meter ≡ m
   -- after any list of calls from accepted fresh settings, refused calls among them, the record is sound: 12 never comes
-  pub reached-sound : (f : Fresh) (calls : List Call) → Settings f → AllInRange calls → soundMeter rows (recordAfter rows (recordOf (freshState f)) calls) ≡ true
+  pub reached-sound : (f : Fresh) (calls : List Call) → Settings f → AllInRange calls
+      → soundMeter rows (recordAfter rows (recordOf (freshState f)) calls) ≡ true
   -- and it is the record that holds the account
   pub simulates : (f : Fresh) (calls : List Call) → Settings f → AllInRange calls
       → recordAfter rows (recordOf (freshState f)) calls ≡ recordOf (holding (account rows f calls))

@@ -11,8 +11,9 @@ use Rattle.calls.specs.declared.Call.the-variants.{SetAlarmFilter}
 use Rattle.calls.specs.Calls.{answerNumber}
 use Rattle.history.specs.Examples.{exampleSettings}
 use Rattle.meter.specs.declared.Meter.{Meter}
-use Rattle.meter.specs.declared.step.Scalars.{Scalars}
-use Rattle.meter.specs.State.{withLogs, withControl, withLimiter}
+use Rattle.steps.specs.declared.Scalars.{Scalars}
+use Rattle.steps.specs.Scalars.{scalarsFrom, withControl, withLimiter}
+use Rattle.meter.specs.State.{withLogs}
 use Rattle.meter.specs.Sound.{soundMeter}
 use Rattle.meter.specs.Machine.{applied}
 use Rattle.meter.specs.Fresh.{freshState}
@@ -31,7 +32,7 @@ bad = (false, 12)
 
 -- the scalars that are varied: the worked example's fresh ones, mode 5
 abbrev pub usual : Scalars
-usual = freshState exampleSettings .scalars
+usual = scalarsFrom (freshState exampleSettings .values)
 
 -- the 96 places of logs without lines
 abbrev pub blank : List ℕ

@@ -1,8 +1,7 @@
 -- The machine as the code does it, on a record in parts: the scalars by value, the arrays of the logs as they stand, of any length and any content.
-use Prim.Native.Nat.{ℕ, _-_}
+use Prim.Native.Nat.{ℕ}
 use mathlib.Core.Bool.{cond}
-use mathlib.Core.List.{List, [], _++_, map}
-use lib.ListN.{length, replicate}
+use mathlib.Core.List.{List, map}
 use Rattle.events.specs.Table.{EventRow}
 use Rattle.logs.specs.declared.Logs.{Logs}
 use Rattle.logs.specs.Layout.{lineClock, lineCode, extendedArrays, zeroedArrays}
@@ -11,36 +10,14 @@ use Rattle.calls.specs.declared.Answer.the-variants.{Accepted, Refused}
 use Rattle.calls.specs.declared.Parsed.{Parsed}
 use Rattle.calls.specs.declared.Parsed.the-variants.{Ok, NoKind}
 use Rattle.calls.specs.Calls.{callOf}
+use Rattle.machine.specs.Machine.{Change, Result, refusing, making}
+use Rattle.steps.specs.Scalars.{scalarsFrom}
+use Rattle.steps.specs.Step.{resultOf}
 use Rattle.meter.specs.declared.Meter.{Meter}
 use Rattle.meter.specs.declared.Outcome.{Outcome}
 use Rattle.meter.specs.declared.parts.Answered.{Answered}
-use Rattle.meter.specs.declared.step.Scalars.{Scalars}
-use Rattle.meter.specs.declared.step.Step.{Step}
 use Rattle.meter.specs.State.{scalarsOf, withLogs}
 use Rattle.meter.specs.Sound.{soundMeter}
-use Rattle.meter.specs.Machine.{Change, Result, refusing, making, result}
-
--- two places of numbers, zeros past them
-abbrev pub inTwo : List ℕ → List ℕ
-inTwo xs = xs ++ replicate (2 - length xs) 0
-
--- a change as the code has it: the lines' clocks and codes in arrays of two
-abbrev pub stepFor : Change → Step
-stepFor k =
-    record {
-      scalars = k .scalars;
-      answer = Accepted;
-      cleared = k .cleared;
-      log = k .log;
-      count = length (k .lines);
-      clocks = inTwo (map lineClock (k .lines));
-      codes = inTwo (map lineCode (k .lines));
-    }
-
--- a result as the code has it: refused, the scalars are those that came in, and nothing is owed
-abbrev pub stepOf : Scalars → Result → Step
-stepOf s (refusing n) = record { scalars = s; answer = Refused n; cleared = 0; log = 0; count = 0; clocks = inTwo []; codes = inTwo [] }
-stepOf s (making k) = stepFor k
 
 -- the outcome of what a call on a record in parts answers and the arrays that it leaves
 abbrev pub outcomeOf : Answered → List ℕ → List ℕ → List ℕ → Outcome
@@ -55,11 +32,11 @@ abbrev pub leftIn : Meter → Result → Outcome
 leftIn m (refusing n) = record { meter = m; answer = Refused n }
 leftIn m (making k) =
     let g = arraysAfter (m .logs) k in
-    record { meter = withLogs (k .scalars) (g .counts) (g .clocks) (g .codes); answer = Accepted }
+    record { meter = withLogs (scalarsFrom (k .values)) (g .counts) (g .clocks) (g .codes); answer = Accepted }
 
 -- a call carried out on a record in parts, whether it is sound or not
 abbrev pub carriedOutInParts : List EventRow → Meter → Call → Outcome
-carriedOutInParts rows m c = leftIn m (result rows (scalarsOf m) c)
+carriedOutInParts rows m c = leftIn m (resultOf rows (scalarsOf m) c)
 
 -- a call on a record in parts, which is tested; of arrays of their types' lengths it is the machine's (see Laws)
 unfoldable pub appliedInParts : List EventRow → Meter → Call → Outcome

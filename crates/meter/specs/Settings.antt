@@ -1,15 +1,16 @@
 -- The settings that fresh takes: 'Fresh takes mode, threshold, Over, Under, clock', and which it refuses.
 use mathlib.Core.Path.{_≡_}
-use mathlib.Core.Bool.{true, _&&_, cond}
+use mathlib.Core.Bool.{true, cond}
+use mathlib.Core.List.{[], _∷_}
 use Prim.Native.Nat.{ℕ}
 use lib.Dec.{leb}
-use lib.IntN.{ℤ, pos}
-use lib.Signed.{leZ}
+use lib.IntN.{ℤ}
 use Rattle.limiter.specs.Limiter.{isThreshold, isDuration}
 use Rattle.calls.specs.declared.Answer.{Answer}
-use Rattle.calls.specs.declared.Answer.the-variants.{Accepted, Refused}
+use Rattle.calls.specs.declared.Answer.the-variants.{Refused}
 use Rattle.calls.specs.Calls.{Word, Signed}
-use Rattle.history.specs.Effects.{Fresh}
+use Rattle.history.specs.OnePhase.{Fresh}
+use Rattle.machine.specs.Settings.{limitsAnswer}
 
 -- 'Fresh takes mode, threshold, Over, Under, clock'
 abbrev pub settingsOf : ℕ → ℤ → ℕ → ℕ → ℕ → Fresh
@@ -17,10 +18,8 @@ settingsOf m t o u k = record { mode = m; threshold = t; over = o; under = u; cl
 
 -- what fresh answers, by the order of 'Where a call stops': '1 | mode above 6', '4 | threshold negative', '5 | Over or Under out of range'
 unfoldable pub freshAnswer : Fresh → Answer
-freshAnswer f =
-    cond (leb (f .mode) 6)
-    (cond (leZ (pos 0) (f .threshold)) (cond (isDuration (f .over) && isDuration (f .under)) Accepted (Refused 5)) (Refused 4))
-    (Refused 1)
+unfolding limitsAnswer
+freshAnswer f = cond (leb (f .mode) 6) (limitsAnswer (f .threshold ∷ []) (f .over) (f .under)) (Refused 1)
 
 -- settings that fresh accepts: 'fresh, call 6 | 1 | mode above 6', 'fresh, call 7 | 4 | threshold negative', '5 | Over or Under out of range'; the clock is a
 -- number of 32 bits

@@ -64,11 +64,9 @@ impl Meter {
         if 6 < mode {
             return Outcome::refused(1);
         }
-        if threshold < 0 {
-            return Outcome::refused(4);
-        }
-        if !(limiter::is_duration(over) & limiter::is_duration(under)) {
-            return Outcome::refused(5);
+        let judged = steps::judge_limits(threshold, over, under);
+        if let Answer::Refused(number) = judged {
+            return Outcome::refused(number);
         }
         let meter = with_settings(mode as u8, threshold, over, under, clock);
         Outcome {

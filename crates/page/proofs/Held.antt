@@ -19,7 +19,8 @@ use Rattle.logs.specs.declared.Logs.{Logs}
 use Rattle.logs.specs.Layout.{Sized, soundLogs}
 use Rattle.calls.specs.Calls.{Word}
 use Rattle.meter.specs.declared.Meter.{Meter}
-use Rattle.meter.specs.Sound.{soundScalars, soundMeter}
+use Rattle.meter.specs.Sound.{soundMeter}
+use Rattle.steps.specs.Scalars.{soundScalars}
 use Rattle.page.specs.Layout.{controlArea, limiterArea, registerArea, lineFormat, logArea, logsArea, storedLines, layout}
 use Rattle.page.specs.Laws.{Typed}
 use Rattle.page.proofs.Lines.{length-lines}

@@ -9,7 +9,8 @@ use Rattle.control.specs.Control.{soundControl}
 use Rattle.limiter.specs.Limiter.{soundLimiter}
 use Rattle.logs.specs.Arrays.{ownCodes, zeroPast, soundLog, soundArrays}
 use Rattle.logs.specs.Layout.{padded, flat, laid, soundLogs}
-use Rattle.meter.specs.Sound.{soundScalars, soundMeter}
+use Rattle.meter.specs.Sound.{soundMeter}
+use Rattle.steps.specs.Scalars.{soundScalars}
 use Rattle.page.specs.Layout.{ofAreas, layout, writeAnswer, hasPairs, holdsSound, readOf}
 use Rattle.page.specs.NearMisses.{NearMisses}
 

@@ -1,7 +1,7 @@
 -- The page that document 01 prints of an account is the page of the record that holds the account.
 use mathlib.Core.Path.{_≡_, refl, ap, _∙_}
 use mathlib.Core.Bool.{true}
-use mathlib.Core.List.{List, [], _∷_, _++_, append-assoc, append-nil, map, map-append, flatMap, reverse}
+use mathlib.Core.List.{List, [], _∷_, _++_, append-assoc, append-nil, map, map-append, flatMap}
 use Prim.Native.Nat.{ℕ, zero, suc, _-_, _*_, _≤_}
 use native.Mathlib.Omega.{arith}
 use lib.ListN.{length, replicate, length-append, length-map, length-replicate}
@@ -15,15 +15,13 @@ use Rattle.logs.proofs.Kept.{lists-length, lists-short}
 use Rattle.logs.proofs.Places.{Short, none, more}
 use Rattle.calls.specs.declared.Call.{Call}
 use Rattle.calls.specs.Calls.{AllInRange}
-use Rattle.history.specs.Effects.{Fresh}
-use Rattle.history.specs.Account.{Account, account}
-use Rattle.meter.specs.State.{recordOf}
-use Rattle.meter.specs.Sound.{soundState}
+use Rattle.history.specs.OnePhase.{Fresh, Account, account}
+use Rattle.meter.specs.State.{scalarsOf, recordOf}
+use Rattle.machine.specs.Sound.{soundState}
 use Rattle.meter.specs.Settings.{Settings}
 use Rattle.meter.specs.Holding.{holding}
 use Rattle.meter.proofs.Values.{logs-sound}
-use Rattle.meter.proofs.Simulates.{named-sound}
-use Rattle.meter.proofs.Laws.{turned}
+use Rattle.meter.proofs.Simulates.{account-sound}
 use Rattle.page.specs.Layout.{controlArea, limiterArea, clockArea, registerArea, lineFormat, logArea, logsArea, areasOf, ofAreas, layout, directory, pageOf}
 use Rattle.page.specs.AccountPage.{printedPairs, fields, logBytes, accountPage}
 use Rattle.page.proofs.Lines.{encs-append}
@@ -81,11 +79,11 @@ module _ (a : Account) where
 
   fields-written : (r : List ℕ)
       → flatMap (λ (f : ℕ × ℕ). be (f .1) (f .0)) (fields a) ++ r
-      ≡ controlArea .enc (holding a .scalars .control)
-      ++ (limiterArea .enc (holding a .scalars .limiter)
+      ≡ controlArea .enc (holding a .values .control)
+      ++ (limiterArea .enc (scalarsOf (recordOf (holding a)) .limiter)
       ++ (clockArea .enc (a .clock)
-      ++ (registerArea .enc (holding a .scalars .alarms)
-      ++ (registerArea .enc (holding a .scalars .errors) ++ r))))
+      ++ (registerArea .enc (holding a .values .alarms)
+      ++ (registerArea .enc (holding a .values .errors) ++ r))))
   unfolding flatMap
   fields-written r = simp (append-assoc, append-nil)
 
@@ -95,11 +93,11 @@ module _ (a : Account) where
 
   sound-written : soundState builtIn (holding a) ≡ true → accountPage a ≡ pageOf (recordOf (holding a))
   sound-written e =
-      let logs = logs-sound builtIn (holding a) e in
+      let logs = logs-sound builtIn (holding a) refl e in
       account-written (lists-length builtIn (a .logs) logs) (lists-short builtIn (a .logs) logs)
 
 -- of the account of every list of calls from accepted settings
 pub list-written : (f : Fresh) (calls : List Call) → Settings f → AllInRange calls
     → accountPage (account builtIn f calls) ≡ pageOf (recordOf (holding (account builtIn f calls)))
 list-written f calls t i =
-    sound-written (account builtIn f calls) (named-sound builtIn built-in-lawful f t (reverse calls) (turned calls [] i tt))
+    sound-written (account builtIn f calls) (account-sound builtIn built-in-lawful f t calls i)

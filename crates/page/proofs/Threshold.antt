@@ -18,9 +18,10 @@ use Rattle.control.specs.Control.{soundControl}
 use Rattle.limiter.specs.Limiter.{isThreshold, isDuration, awaited, soundSettings, soundLimiter}
 use Rattle.logs.specs.Layout.{soundLogs}
 use Rattle.meter.specs.declared.Meter.{Meter}
-use Rattle.meter.specs.declared.step.Scalars.{Scalars}
+use Rattle.steps.specs.declared.Scalars.{Scalars}
 use Rattle.meter.specs.State.{scalarsOf}
-use Rattle.meter.specs.Sound.{soundScalars, soundMeter}
+use Rattle.meter.specs.Sound.{soundMeter}
+use Rattle.steps.specs.Scalars.{soundScalars}
 use Rattle.page.specs.Layout.{layout, start, meterIn, isRecord, holdsSound}
 
 pub threshold-held : (z : ℤ) → isThreshold z ≡ true → T (nonNeg z) × (natAbs z < 256 ^ 4)

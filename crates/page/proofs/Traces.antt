@@ -1,7 +1,7 @@
 -- Demand 3: the record after a list holds the account, its numbers fit the page's bytes, and a page gives back the record that it was written from.
-use mathlib.Core.Path.{_≡_, sym, ap, _∙_}
+use mathlib.Core.Path.{_≡_, refl, sym, ap, _∙_}
 use mathlib.Core.Bool.{true}
-use mathlib.Core.List.{List, [], reverse}
+use mathlib.Core.List.{List}
 use Prim.Native.Nat.{ℕ, _≤_}
 use native.Mathlib.Omega.{arith}
 use lib.ListN.{length, take, replicate}
@@ -9,17 +9,20 @@ use borrow.Author.Tests.{le-leb}
 use Rattle.events.specs.Table.{builtIn}
 use Rattle.calls.specs.declared.Answer.{Answer}
 use Rattle.calls.specs.declared.Answer.the-variants.{Accepted}
-use Rattle.history.specs.Account.{Account}
+use Rattle.history.specs.OnePhase.{Account}
 use Rattle.meter.specs.declared.Meter.{Meter}
-use Rattle.meter.specs.State.{State, stateOf, recordOf}
-use Rattle.meter.specs.Sound.{soundMeter, soundState}
+use Rattle.steps.specs.Scalars.{firstLimiter}
+use Rattle.meter.specs.State.{stateOf, recordOf}
+use Rattle.machine.specs.Values.{State}
+use Rattle.meter.specs.Sound.{soundMeter}
+use Rattle.machine.specs.Sound.{soundState}
 use Rattle.meter.specs.Machine.{recordAfter}
 use Rattle.meter.specs.Settings.{Settings}
 use Rattle.meter.specs.Holding.{holding}
 use Rattle.meter.proofs.Accepting.{fresh-laws}
-use Rattle.meter.proofs.Laws.{built-in, turned}
+use Rattle.meter.proofs.Laws.{built-in}
 use Rattle.meter.proofs.Values.{record-sound}
-use Rattle.meter.proofs.Simulates.{named-sound}
+use Rattle.meter.proofs.Simulates.{account-sound}
 use Rattle.events.proofs.Rule.{built-in-lawful}
 use Rattle.page.specs.Layout.{size, pageOf, writeAnswer, written, acceptedOutcome, readOf}
 use Rattle.page.specs.Laws.{Typed}
@@ -35,19 +38,19 @@ use Rattle.page.proofs.Printed.{list-written}
 abbrev named : State → Account
 named v =
     record {
-      mode = v .scalars .control .mode;
-      switch = v .scalars .control .state;
-      openings = v .scalars .control .openings;
-      threshold = v .scalars .limiter .threshold;
-      over = v .scalars .limiter .over;
-      under = v .scalars .limiter .under;
-      exceeded = v .scalars .limiter .exceeded;
-      run = v .scalars .limiter .run;
-      clock = v .scalars .clock;
-      alarms = v .scalars .alarms .bits;
-      alarmFilter = v .scalars .alarms .filter;
-      errors = v .scalars .errors .bits;
-      errorFilter = v .scalars .errors .filter;
+      mode = v .values .control .mode;
+      switch = v .values .control .state;
+      openings = v .values .control .openings;
+      threshold = firstLimiter (v .values .limiters) .threshold;
+      over = firstLimiter (v .values .limiters) .over;
+      under = firstLimiter (v .values .limiters) .under;
+      exceeded = firstLimiter (v .values .limiters) .exceeded;
+      run = firstLimiter (v .values .limiters) .run;
+      clock = v .values .clock;
+      alarms = v .values .alarms .bits;
+      alarmFilter = v .values .alarms .filter;
+      errors = v .values .errors .bits;
+      errorFilter = v .values .errors .filter;
       logs = v .logs;
     }
 
@@ -63,13 +66,13 @@ module _ (t : Trace) where
 
   -- its values are sound, and its numbers values of their types
   values-sound : soundState builtIn (holding (traceAccount t)) ≡ true
-  values-sound = named-sound builtIn built-in-lawful (t .settings) settings (reverse (t .calls)) (turned (t .calls) [] (t .calls-in-range) tt)
+  values-sound = account-sound builtIn built-in-lawful (t .settings) settings (t .calls) (t .calls-in-range)
 
   typed : Typed (recordOf (holding (traceAccount t)))
-  typed = account-typed (t .settings) settings (reverse (t .calls)) (turned (t .calls) [] (t .calls-in-range) tt)
+  typed = account-typed (t .settings) settings (t .calls) (t .calls-in-range)
 
   record-is-sound : soundMeter builtIn (recordOf (holding (traceAccount t))) ≡ true
-  record-is-sound = record-sound builtIn (holding (traceAccount t)) values-sound
+  record-is-sound = record-sound builtIn (holding (traceAccount t)) refl values-sound
 
   -- and its page is the one that document 01 prints of the account
   printed : accountPage (traceAccount t) ≡ pageOf (recordOf (holding (traceAccount t)))
@@ -91,7 +94,7 @@ pub same-account : (s t : Trace) → accountPage (traceAccount s) ≡ accountPag
 same-account s t e =
     let records = laws .injective (recordOf (holding (traceAccount s))) (recordOf (holding (traceAccount t))) (typed s) (typed t) (record-is-sound s) (record-is-sound t) (sym (printed s) ∙ e ∙ printed t) in
     let values : holding (traceAccount s) ≡ holding (traceAccount t) =
-    sym (built-in .state-of-record (holding (traceAccount s)) (values-sound s)) ∙ ap stateOf records ∙ built-in .state-of-record (holding (traceAccount t)) (values-sound t) in
+    sym (built-in .state-of-record (holding (traceAccount s)) refl (values-sound s)) ∙ ap stateOf records ∙ built-in .state-of-record (holding (traceAccount t)) refl (values-sound t) in
     ap named values
 
 pub demand-3 : Demand3

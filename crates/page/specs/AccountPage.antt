@@ -7,7 +7,7 @@ use lib.IntN.{natAbs}
 use lib.ListN.{length, replicate}
 use Rattle.codec.specs.BigEndian.{be}
 use Rattle.events.specs.Line.{Line}
-use Rattle.history.specs.Account.{Account}
+use Rattle.history.specs.OnePhase.{Account}
 
 -- 'First eight pairs of offset and length (16 bits each), sorted by offset: (32,6) (38,17) (55,4) (59,8) (67,8) (75,161) (236,161) (397,161).'
 abbrev pub printedPairs : List (ℕ × ℕ)

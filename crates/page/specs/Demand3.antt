@@ -8,8 +8,7 @@ use Rattle.events.specs.Table.{builtIn}
 use Rattle.calls.specs.declared.Call.{Call}
 use Rattle.calls.specs.declared.Answer.the-variants.{Accepted}
 use Rattle.calls.specs.Calls.{AllInRange}
-use Rattle.history.specs.Effects.{Fresh}
-use Rattle.history.specs.Account.{Account, account}
+use Rattle.history.specs.OnePhase.{Fresh, Account, account}
 use Rattle.meter.specs.declared.Meter.{Meter}
 use Rattle.meter.specs.Machine.{recordAfter}
 use Rattle.meter.specs.Settings.{SettingsInRange}

@@ -8,7 +8,7 @@ use lib.IntN.{pos}
 use lib.ListN.{replicate}
 use Rattle.events.specs.Line.{line}
 use Rattle.calls.specs.declared.Answer.the-variants.{Accepted}
-use Rattle.history.specs.Account.{Account}
+use Rattle.history.specs.OnePhase.{Account}
 use Rattle.history.specs.Examples.{exampleSettings, exampleCalls}
 use Rattle.meter.specs.Settings.{freshAnswer, SettingsInRange}
 use Rattle.meter.specs.Fresh.{freshOf}

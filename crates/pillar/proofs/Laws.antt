@@ -19,8 +19,7 @@ use Rattle.calls.specs.declared.Parsed.{Parsed}
 use Rattle.calls.specs.declared.Parsed.the-variants.{Ok, NoKind}
 use Rattle.calls.specs.Calls.{answerNumber, callOf, InRange, AllInRange}
 use Rattle.calls.proofs.Named.{laws as call-laws}
-use Rattle.history.specs.Effects.{Fresh}
-use Rattle.history.specs.Account.{account}
+use Rattle.history.specs.OnePhase.{Fresh, account}
 use Rattle.meter.specs.declared.Meter.{Meter}
 use Rattle.meter.specs.declared.Outcome.{Outcome}
 use Rattle.meter.specs.State.{recordOf}
@@ -29,7 +28,6 @@ use Rattle.meter.specs.Machine.{applied, performed, commanded, recordAfter}
 use Rattle.meter.specs.Settings.{Settings, SettingsInRange}
 use Rattle.meter.specs.Fresh.{freshState, freshOf, refusedOutcome}
 use Rattle.meter.proofs.Accepting.{fresh-laws}
-use Rattle.meter.proofs.Laws.{turned}
 use Rattle.meter.proofs.Laws as meter
 use Rattle.page.specs.Layout.{layout, start, size, pageOf, writeAnswer, written, acceptedOutcome, hasPairs, meterIn, holdsSound, readOf}
 use Rattle.page.specs.Laws.{Typed}
@@ -225,7 +223,7 @@ module _ (f : Fresh) (t : Settings f) where
   from-record : (calls : List Call) → AllInRange calls → Read (pageOf (reached calls)) (reached calls)
   from-record calls i =
       let sound = meter.built-in .reached-sound f calls t i in
-      let typed : Typed (reached calls) = rw (meter.built-in .simulates f calls t i) (account-typed f t (reverse calls) (turned calls [] i tt)) in
+      let typed : Typed (reached calls) = rw (meter.built-in .simulates f calls t i) (account-typed f t calls i) in
       record { reads = roundtrip.read-page (reached calls) typed sound; back = refl; sound = sound; sized = typed .logs }
 
   -- the pages of records behind some calls

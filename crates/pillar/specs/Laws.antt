@@ -10,8 +10,7 @@ use Rattle.codec.specs.Lawful.{Bytes}
 use Rattle.events.specs.Table.{builtIn}
 use Rattle.calls.specs.declared.Answer.the-variants.{Accepted, Refused}
 use Rattle.calls.specs.Calls.{answerNumber, AllInRange}
-use Rattle.history.specs.Effects.{Fresh}
-use Rattle.history.specs.Account.{account}
+use Rattle.history.specs.OnePhase.{Fresh, account}
 use Rattle.meter.specs.Settings.{SettingsInRange}
 use Rattle.meter.specs.Fresh.{freshOf}
 use Rattle.page.specs.Layout.{size, pageOf, readOf}

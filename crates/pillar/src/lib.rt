@@ -83,7 +83,7 @@ pub extern "C" fn pillar_call(
     let mut counts = meter.logs.counts;
     let mut clocks = meter.logs.clocks;
     let mut codes = meter.logs.codes;
-    let called = before.apply_sound(&mut counts, &mut clocks, &mut codes, call);
+    let called = meter::apply_sound(before, &mut counts, &mut clocks, &mut codes, call);
     let refusal = called.answer;
     if let Answer::Refused(number) = refusal {
         return number as u32;

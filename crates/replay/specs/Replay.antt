@@ -12,8 +12,7 @@ use Rattle.calls.specs.declared.Answer.the-variants as answer
 use Rattle.calls.specs.declared.Parsed.{Parsed}
 use Rattle.calls.specs.declared.Parsed.the-variants.{Ok, NoKind}
 use Rattle.calls.specs.Calls.{signedOf, callOf}
-use Rattle.history.specs.Effects.{Fresh}
-use Rattle.history.specs.Account.{Account, account}
+use Rattle.history.specs.OnePhase.{Fresh, Account, account}
 use Rattle.meter.specs.declared.Meter.{Meter}
 use Rattle.meter.specs.declared.Outcome.{Outcome}
 use Rattle.meter.specs.Machine.{commanded, recordAfter}

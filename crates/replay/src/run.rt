@@ -51,7 +51,8 @@ pub fn run_from(before: Meter, records: &[u8], first: usize) -> Meter
     let count = records.len() / RECORD_LEN;
     for i in first..count {
         let record = input::whole_record_at(records, i * RECORD_LEN);
-        let answered = scalars.command_sound(
+        let answered = meter::command_sound(
+            scalars,
             &mut counts,
             &mut clocks,
             &mut codes,
@@ -64,5 +65,5 @@ pub fn run_from(before: Meter, records: &[u8], first: usize) -> Meter
         );
         scalars = answered.scalars;
     }
-    scalars.with_logs(counts, clocks, codes)
+    Meter::of_parts(scalars, counts, clocks, codes)
 }

@@ -8,7 +8,8 @@ use Rattle.logs.specs.Arrays.{soundArrays}
 use Rattle.logs.specs.Layout.{soundLogs}
 use Rattle.meter.specs.declared.Meter.{Meter}
 use Rattle.meter.specs.State.{scalarsOf, withLogs}
-use Rattle.meter.specs.Sound.{soundScalars, soundMeter}
+use Rattle.steps.specs.Scalars.{soundScalars}
+use Rattle.meter.specs.Sound.{soundMeter}
 use Rattle.page.specs.Layout.{writeAnswer, written}
 use Rattle.page.proofs.Stored.{page-left}
 use Rattle.page.proofs.write_sound.Statement.{statement}

@@ -68,7 +68,7 @@ returns-2 c =
     let l = c .before .before .loop in
     let a = c .before .before .before .before .before .before in
     let s = a .before .before .before .before .args .records .now in
-    rw (c .with-logs .ensures)
+    rw (c .of-parts .ensures)
     (sym (last-turn s (l .i) (withLogs (l .scalars) (l .counts) (l .clocks) (l .codes)) (search needs))
     ∙ l .inv .1
     ∙ rw (a .scalars .ensures))

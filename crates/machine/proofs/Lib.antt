@@ -1,0 +1,15 @@
+pub mod Lists
+pub mod Effects
+pub mod Ranges
+pub mod OtherParts
+pub mod Clock
+pub mod Registers
+pub mod Stretches
+pub mod Switch
+pub mod Lines
+pub mod Owed
+pub mod Answers
+pub mod Preserved
+pub mod Number
+pub mod Fits
+pub mod Simulates

@@ -1,0 +1,64 @@
+-- A call keeps the number of limiters.
+use Prim.Native.Nat.{ℕ, suc, _+_}
+use mathlib.Core.Path.{_≡_, refl, ap, _∙_}
+use mathlib.Core.Bool.{Bool, true, false}
+use mathlib.Core.List.{List, [], _∷_, map}
+use lib.ListN.{length, length-map}
+use Rattle.base.specs.Numbers.{held}
+use Rattle.base.specs.Tests.{gathered, eachFrom}
+use Rattle.events.specs.Line.{Line}
+use Rattle.events.specs.Table.{EventRow}
+use Rattle.control.specs.declared.Request.the-variants as request
+use Rattle.control.specs.declared.Decision.{Decision}
+use Rattle.control.specs.declared.Decision.the-variants.{Move, Stay, NotListed}
+use Rattle.control.specs.Control.{modeDecision, inMode}
+use Rattle.limiter.specs.declared.Watched.{Watched}
+use Rattle.history.specs.Effects.{alarms, errors, AnyCall, Effect, sampled, requested, modeSet, limitsSet, clockSet, occurred, filterSet, bitsCleared, logCleared, Reading, refused, accepted, reading}
+use Rattle.machine.specs.Values.{Values, State, withControl, withLimiters, withClock}
+use Rattle.machine.specs.Machine.{moving, decided, sampledEach, firedLines, disconnectTried, reconnectTried, afterSample, sampleResult, requestOf, result}
+use Rattle.machine.proofs.Effects.{effectResult, readResult}
+use Rattle.machine.proofs.Answers.{by-reading, afterResult}
+
+length-each : {A B : Type 0} (k : ℕ) (f : ℕ → A → B) (xs : List A) → length (eachFrom k f xs) ≡ length xs
+unfolding eachFrom
+length-each k f [] = refl
+length-each k f (x ∷ xs) = ap suc (length-each (suc k) f xs)
+
+moving-limiters : (v : Values) (xs : List Line) (d : Decision) → moving v xs d .values .limiters ≡ v .limiters
+moving-limiters v xs (Move t c o) = refl
+moving-limiters v xs Stay = refl
+moving-limiters v xs NotListed = refl
+
+sample-limiters : (v : Values) (ws : List Watched) → afterSample v ws .values .limiters ≡ v .limiters
+sample-limiters v ws = go (disconnectTried ws) (reconnectTried ws) refl refl
+  where
+    go : (x y : Bool) → disconnectTried ws ≡ x → reconnectTried ws ≡ y → afterSample v ws .values .limiters ≡ v .limiters
+    go true y a b = rw a (moving-limiters v (gathered (firedLines v) ws) (decided v request.LocalDisconnect))
+    go false true a b = rw (a, b) (moving-limiters v (gathered (firedLines v) ws) (decided v request.LocalReconnect))
+    go false false a b = rw (a, b)
+
+effect-number : (v : Values) (e : Effect) → length (effectResult v e .values .limiters) ≡ length (v .limiters)
+unfolding sampleResult
+effect-number v (sampled ps) =
+    let ws = sampledEach (v .limiters) ps in
+    ap length (sample-limiters (withLimiters (withClock v (held (v .clock + 1))) (map (λ w. w .limiter) ws)) ws)
+    ∙ length-map ws (λ w. w .limiter)
+    ∙ length-each 0 _ (v .limiters)
+effect-number v (requested q) = ap length (moving-limiters v [] (decided v (requestOf q)))
+effect-number v (modeSet n) = ap length (moving-limiters (withControl v (inMode (v .control) n)) [] (modeDecision n (v .control .state)))
+effect-number v (limitsSet ts o u) = length-each 0 _ (v .limiters)
+effect-number v (clockSet n) = refl
+effect-number v (occurred r) = refl
+effect-number v (filterSet alarms n) = refl
+effect-number v (filterSet errors n) = refl
+effect-number v (bitsCleared alarms n) = refl
+effect-number v (bitsCleared errors n) = refl
+effect-number v (logCleared n) = refl
+
+pub number-kept : (rows : List EventRow) (s : State) (c : AnyCall)
+    → length (afterResult s (result rows (s .values) c) .values .limiters) ≡ length (s .values .limiters)
+number-kept rows s c = rw (by-reading rows (s .values) c) (go (reading rows (s .values .control .mode) c))
+  where
+    go : (x : Reading) → length (afterResult s (readResult (s .values) x) .values .limiters) ≡ length (s .values .limiters)
+    go (refused n) = refl
+    go (accepted e) = effect-number (s .values) e

@@ -1,0 +1,62 @@
+-- What an accepted call makes of the values apart from control and limiters: a decision on the switch bears on those alone.
+use Prim.Native.Nat.{_+_}
+use mathlib.Core.Path.{_≡_, refl}
+use mathlib.Core.Bool.{Bool, true, false}
+use mathlib.Core.List.{List, [], map}
+use Rattle.base.specs.Numbers.{held}
+use Rattle.base.specs.Tests.{gathered}
+use Rattle.events.specs.Line.{Line}
+use Rattle.control.specs.declared.Decision.{Decision}
+use Rattle.control.specs.declared.Decision.the-variants.{Move, Stay, NotListed}
+use Rattle.control.specs.declared.Request.the-variants as request
+use Rattle.control.specs.Control.{modeDecision, inMode}
+use Rattle.limiter.specs.declared.Watched.{Watched}
+use Rattle.history.specs.Effects.{alarms, errors, Effect, sampled, requested, modeSet, limitsSet, clockSet, occurred, filterSet, bitsCleared, logCleared}
+use Rattle.machine.specs.Values.{Values, withControl, withLimiters, withClock}
+use Rattle.machine.specs.Machine.{moving, decided, requestOf, firedLines, disconnectTried, reconnectTried, sampledEach, afterSample, sampleResult}
+use Rattle.machine.proofs.Effects.{effectResult}
+
+-- the values after an accepted call, but for control and limiters
+abbrev pub otherParts : Values → Effect → Values
+otherParts s (sampled ps) = withClock s (held (s .clock + 1))
+otherParts s (requested q) = s
+otherParts s (modeSet n) = s
+otherParts s (limitsSet ts o u) = s
+otherParts s (clockSet n) = effectResult s (clockSet n) .values
+otherParts s (occurred r) = effectResult s (occurred r) .values
+otherParts s (filterSet x n) = effectResult s (filterSet x n) .values
+otherParts s (bitsCleared x n) = effectResult s (bitsCleared x n) .values
+otherParts s (logCleared n) = s
+
+-- values that are those of s but for control and limiters
+abbrev Apart : Values → Values → Type 0
+Apart s t = t ≡ withControl (withLimiters s (t .limiters)) (t .control)
+
+moving-apart : (s : Values) (xs : List Line) (d : Decision) → Apart s (moving s xs d .values)
+moving-apart s xs (Move t c o) = refl
+moving-apart s xs Stay = refl
+moving-apart s xs NotListed = refl
+
+sample-apart : (s : Values) (ws : List Watched) → Apart s (afterSample s ws .values)
+sample-apart s ws = go (disconnectTried ws) (reconnectTried ws) refl refl
+  where
+    go : (x y : Bool) → disconnectTried ws ≡ x → reconnectTried ws ≡ y → Apart s (afterSample s ws .values)
+    go true y a b = rw a (moving-apart s (gathered (firedLines s) ws) (decided s request.LocalDisconnect))
+    go false true a b = rw (a, b) (moving-apart s (gathered (firedLines s) ws) (decided s request.LocalReconnect))
+    go false false a b = rw (a, b)
+
+pub values-after : (s : Values) (e : Effect) → Apart (otherParts s e) (effectResult s e .values)
+unfolding sampleResult
+values-after s (sampled ps) =
+    let ws = sampledEach (s .limiters) ps in
+    sample-apart (withLimiters (withClock s (held (s .clock + 1))) (map (λ w. w .limiter) ws)) ws
+values-after s (requested q) = moving-apart s [] (decided s (requestOf q))
+values-after s (modeSet n) = moving-apart (withControl s (inMode (s .control) n)) [] (modeDecision n (s .control .state))
+values-after s (limitsSet ts o u) = refl
+values-after s (clockSet n) = refl
+values-after s (occurred r) = refl
+values-after s (filterSet alarms n) = refl
+values-after s (filterSet errors n) = refl
+values-after s (bitsCleared alarms n) = refl
+values-after s (bitsCleared errors n) = refl
+values-after s (logCleared n) = refl

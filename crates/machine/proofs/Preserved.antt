@@ -1,0 +1,282 @@
+-- Every call keeps sound values sound, and those of a fresh meter are sound.
+use mathlib.Core.Path.{_≡_, refl}
+use mathlib.Core.Bool.{Bool, true, false, _&&_, not, cond, or-true}
+use mathlib.Core.List.{List, [], _∷_, map}
+use mathlib.Core.Option.{Option, none, some}
+use Prim.Native.Nat.{ℕ, suc}
+use lib.Dec.{eqb, leb}
+use lib.IntN.{ℤ, pos}
+use lib.Signed.{leZ}
+use Rattle.base.specs.Tests.{among, every, below, gathered, eachFrom}
+use Rattle.base.proofs.Bools.{and-left, and-right}
+use Rattle.base.proofs.Every.{every-append, among-passes}
+use Rattle.events.specs.Line.{Line, line, isLog}
+use Rattle.events.specs.Table.{EventRow, lookup, lawful}
+use Rattle.events.specs.Codes.{besides, mayHold}
+use Rattle.events.proofs.Rule.{row-held, row-log}
+use Rattle.control.specs.declared.Control.{Control}
+use Rattle.control.specs.declared.Request.{Request}
+use Rattle.control.specs.declared.Request.the-variants as request
+use Rattle.control.specs.declared.Decision.{Decision}
+use Rattle.control.specs.declared.Decision.the-variants.{Move, Stay, NotListed}
+use Rattle.control.specs.Control.{modeDecision, inMode, soundControl}
+use Rattle.control.proofs.Moves.{moveCodes, table-move, moved-sound, mode-moved-sound, mode-stays-sound}
+use Rattle.limiter.specs.declared.Limiter.{Limiter}
+use Rattle.limiter.specs.declared.Watched.{Watched}
+use Rattle.limiter.specs.Limiter.{isOver, isThreshold, isDuration, sampledPower, withSettings, soundLimiter}
+use Rattle.limiter.proofs.Watching.{laws as limiter-laws, settings-sound}
+use Rattle.logs.specs.Lists.{emptied, ownLines, soundLists}
+use Rattle.logs.proofs.Kept.{appended-sound, emptied-sound}
+use Rattle.calls.specs.declared.Answer.{Answer}
+use Rattle.history.specs.Effects.{AnyFresh, alarms, errors, AnyCall, sample, request as requestCall, setMode, setLimiter, setClock, event, setFilter, clearBits, clearLog, script}
+use Rattle.history.specs.Last.{numberAt}
+use Rattle.machine.specs.Values.{Values, State, withControl, withLimiters}
+use Rattle.machine.specs.Settings.{limitsAnswer}
+use Rattle.machine.specs.Sound.{soundValues, soundState}
+use Rattle.machine.specs.Machine.{Change, Result, refusing, making, owing, answeredWith, lineNow, moving, decided, requestOf, answering, requestResult, sampledEach, firedLines, disconnectTried, reconnectTried, afterSample, sampleResult, modeResult, settingsEach, limiterResult, occurring, eventResult, clearLogResult, scriptResult, result}
+use Rattle.machine.specs.Fresh.{freshLimiter, freshValues}
+use Rattle.machine.specs.Ranges.{AnySettings, AnyInRange}
+use Rattle.machine.proofs.Lists.{every-number}
+use Rattle.machine.proofs.Answers.{either, afterResult}
+
+module _ (rows : List EventRow) where
+  -- whatever the event table, a log may hold the codes that document 01 lists besides
+  besides-held : (n c : ℕ) → isLog n ≡ true → among (besides n) c ≡ true → mayHold rows n c ≡ true
+  unfolding mayHold
+  besides-held n c l e = rw (l, e, or-true)
+
+  -- one line of a code that its log may hold
+  one-own : (n t c : ℕ) → mayHold rows n c ≡ true → ownLines rows n (line t c ∷ []) ≡ true
+  unfolding every
+  one-own n t c e = rw e
+
+  move-own : (t c : ℕ) → among moveCodes c ≡ true → ownLines rows 3 (line t c ∷ []) ≡ true
+  unfolding every besides among
+  move-own t c e = one-own 3 t c (besides-held 3 c refl (among-passes (among (besides 3)) moveCodes c refl e))
+
+  -- one line of such a code
+  further-own : (n t c : ℕ) → isLog n ≡ true → among (besides n) c ≡ true → ownLines rows n (line t c ∷ []) ≡ true
+  further-own n t c l e = one-own n t c (besides-held n c l e)
+
+-- each log may hold the line of its clear
+clear-listed : (n : ℕ) → among (besides n) 255 ≡ true
+unfolding besides among
+clear-listed n = go (eqb n 1) (eqb n 3)
+  where
+    go : (a b : Bool) → among (cond a (4 ∷ 5 ∷ 10 ∷ 11 ∷ 255 ∷ []) (cond b (59 ∷ 60 ∷ 61 ∷ 62 ∷ 63 ∷ 64 ∷ 65 ∷ 66 ∷ 67 ∷ 69 ∷ 255 ∷ []) (255 ∷ []))) 255 ≡ true
+    go true b = refl
+    go false true = refl
+    go false false = refl
+
+-- ---- the limiters
+-- what keeps each entry sound keeps the list sound
+every-map : {A B : Type 0} (p : A → Bool) (g : A → B) (q : B → Bool) (xs : List A) → ((x : A) → p x ≡ true → q (g x) ≡ true) → every p xs ≡ true
+    → every q (map g xs) ≡ true
+unfolding every
+every-map p g q [] k h = refl
+every-map p g q (x ∷ xs) k h = rw (k x (and-left (p x) (every p xs) h)) (every-map p g q xs k (and-right (p x) (every p xs) h))
+
+sampled-sound : (n : ℕ) (ls : List Limiter) (ps : List ℤ) → every soundLimiter ls ≡ true
+    → every soundLimiter (map (λ w. w .limiter) (eachFrom n (λ k l. sampledPower l (numberAt ps k)) ls)) ≡ true
+unfolding every eachFrom
+sampled-sound n [] ps h = refl
+sampled-sound n (l ∷ ls) ps h =
+    rw (limiter-laws l (isOver (l .threshold) (numberAt ps n)) .sound (and-left (soundLimiter l) (every soundLimiter ls) h))
+    (sampled-sound (suc n) ls ps (and-right (soundLimiter l) (every soundLimiter ls) h))
+
+set-sound : (n : ℕ) (ls : List Limiter) (ts : List ℤ) (o u : ℕ) → ((k : ℕ) → isThreshold (numberAt ts k) ≡ true) → isDuration o ≡ true
+    → isDuration u ≡ true → every soundLimiter (eachFrom n (λ k l. withSettings l (numberAt ts k) o u) ls) ≡ true
+unfolding every eachFrom
+set-sound n [] ts o u t a b = refl
+set-sound n (l ∷ ls) ts o u t a b = rw (settings-sound l (numberAt ts n) o u (t n) a b) (set-sound (suc n) ls ts o u t a b)
+
+fresh-limiters : (f : AnyFresh) (ts : List ℤ) → every isThreshold ts ≡ true → isDuration (f .over) ≡ true → isDuration (f .under) ≡ true
+    → every soundLimiter (map (freshLimiter f) ts) ≡ true
+fresh-limiters f ts h a b = every-map isThreshold (freshLimiter f) soundLimiter ts (λ t e. settings-sound (freshLimiter f t) t (f .over) (f .under) e a b) h
+
+-- ---- the values: mode and switch, and limiters
+values-of : (c : Control) (l : List Limiter) → soundControl c ≡ true → every soundLimiter l ≡ true → (soundControl c && every soundLimiter l) ≡ true
+values-of c l h k = rw (h, k)
+
+module _ (s : Values) (h : soundValues s ≡ true) where
+  control-sound : soundControl (s .control) ≡ true
+  unfolding soundValues
+  control-sound = and-left (soundControl (s .control)) (every soundLimiter (s .limiters)) h
+
+  limiters-sound : every soundLimiter (s .limiters) ≡ true
+  unfolding soundValues
+  limiters-sound = and-right (soundControl (s .control)) (every soundLimiter (s .limiters)) h
+
+-- the values that a call leaves are sound, and its lines may stand in their log
+pub record SoundChange (rows : List EventRow) (k : Change) : Type 0 where
+  pub values : soundValues (k .values) ≡ true
+  pub lines : ownLines rows (k .log) (k .lines) ≡ true
+
+abbrev SoundResult : List EventRow → Result → Type 0
+SoundResult rows (refusing n) = Unit
+SoundResult rows (making k) = SoundChange rows k
+
+module _ (rows : List EventRow) where
+  -- a move of the switch table, behind lines that log 3 may hold
+  moving-sound : (s : Values) (xs : List Line) (q : Request) → soundValues s ≡ true → ownLines rows 3 xs ≡ true → SoundChange rows (moving s xs (decided s q))
+  unfolding soundValues
+  moving-sound s xs q h o = go (decided s q) refl
+    where
+      go : (d : Decision) → decided s q ≡ d → SoundChange rows (moving s xs d)
+      go (Move t c b) e =
+          record {
+            values = values-of _ (s .limiters) (moved-sound _ q _ c b e) (limiters-sound s h);
+            lines =
+                every-append (λ x. mayHold rows 3 (x .code)) xs (lineNow s c ∷ []) o
+                (move-own rows (s .clock) c (table-move q _ _ t c b e .code));
+          }
+      go Stay e = record { values = h; lines = o }
+      go NotListed e = record { values = h; lines = o }
+
+  request-sound : (s : Values) (q : Request) → soundValues s ≡ true → SoundResult rows (requestResult s q)
+  unfolding requestResult every
+  request-sound s q h = go (decided s q) (moving-sound s [] q h refl)
+    where
+      go : (d : Decision) → SoundChange rows (moving s [] d) → SoundResult rows (answering s d)
+      go (Move t c b) k = k
+      go Stay k = k
+      go NotListed k = tt
+
+  -- lines 65 and 66
+  firing-own : (s : Values) (ws : List Watched) → ownLines rows 3 (gathered (firedLines s) ws) ≡ true
+  unfolding besides among every gathered
+  firing-own s [] = refl
+  firing-own s (w ∷ ws) =
+      every-append (λ x. mayHold rows 3 (x .code)) (firedLines s w) (gathered (firedLines s) ws)
+      (one (w .fired) (w .limiter .exceeded)) (firing-own s ws)
+    where
+      one : (x y : Bool) → ownLines rows 3 (cond x (lineNow s (cond y 65 66) ∷ []) []) ≡ true
+      one true true = further-own rows 3 (s .clock) 65 refl refl
+      one true false = further-own rows 3 (s .clock) 66 refl refl
+      one false y = refl
+
+  -- and behind them the local moves
+  firing-sound : (s : Values) (ws : List Watched) → soundValues s ≡ true → SoundChange rows (afterSample s ws)
+  firing-sound s ws h =
+      either (SoundChange rows) (disconnectTried ws)
+      (λ f. moving-sound s (gathered (firedLines s) ws) request.LocalDisconnect h (firing-own s ws))
+      (λ f. either (SoundChange rows) (reconnectTried ws)
+      (λ x. moving-sound s (gathered (firedLines s) ws) request.LocalReconnect h (firing-own s ws))
+      (λ x. record { values = h; lines = firing-own s ws }))
+
+  sample-sound : (s : Values) (ps : List ℤ) → soundValues s ≡ true → SoundChange rows (sampleResult s ps)
+  unfolding sampleResult soundValues
+  sample-sound s ps h =
+      let ws = sampledEach (s .limiters) ps in
+      firing-sound _ ws
+      (values-of (s .control) (map (λ w. w .limiter) ws) (control-sound s h) (sampled-sound 0 (s .limiters) ps (limiters-sound s h)))
+
+  -- a mode change connects the switch with line 63, or leaves it
+  mode-sound : (s : Values) (n : ℕ) → soundValues s ≡ true → SoundResult rows (modeResult s n)
+  unfolding modeResult modeDecision soundValues besides among every
+  mode-sound s n h =
+      either (SoundResult rows) (leb n 6)
+      (λ k. go k (eqb n 0 && not (eqb (s .control .state) 1)) refl)
+      (λ k. tt)
+    where
+      go : leb n 6 ≡ true → (b : Bool) → modeDecision n (s .control .state) ≡ cond b (Move 1 63 false) Stay
+          → SoundChange rows (moving (withControl s (inMode (s .control) n)) [] (cond b (Move 1 63 false) Stay))
+      go k true e =
+          record {
+            values = values-of _ (s .limiters) (mode-moved-sound _ (s .control .state) 63 false k e) (limiters-sound s h);
+            lines = further-own rows 3 (s .clock) 63 refl refl;
+          }
+      go k false e =
+          record {
+            values = values-of _ (s .limiters) (mode-stays-sound (s .control) n (control-sound s h) k e) (limiters-sound s h);
+            lines = refl;
+          }
+
+  limits-sound : (s : Values) (ts : List ℤ) (o u : ℕ) → every (λ t. leZ t (pos 2147483647)) ts ≡ true → soundValues s ≡ true
+      → SoundResult rows (limiterResult s ts o u)
+  unfolding limitsAnswer limiterResult soundValues besides among every
+  limits-sound s ts o u i h =
+      either made (every (leZ (pos 0)) ts)
+      (λ a. either made (isDuration o && isDuration u)
+      (λ b. record {
+        values =
+            values-of (s .control) (settingsEach (s .limiters) ts o u) (control-sound s h)
+            (set-sound 0 (s .limiters) ts o u
+            (λ k. rw (every-number (leZ (pos 0)) ts k refl a, every-number (λ t. leZ t (pos 2147483647)) ts k refl i))
+            (and-left (isDuration o) (isDuration u) b) (and-right (isDuration o) (isDuration u) b));
+        lines = further-own rows 3 (s .clock) 67 refl refl;
+      })
+      (λ b. tt))
+      (λ a. tt)
+    where
+      made : Answer → Type 0
+      made a = SoundResult rows (answeredWith a (owing (withLimiters s (settingsEach (s .limiters) ts o u)) 3 (lineNow s 67 ∷ [])))
+
+  event-sound : every lawful rows ≡ true → (s : Values) (c : ℕ) → soundValues s ≡ true → SoundResult rows (eventResult rows s c)
+  unfolding eventResult soundValues
+  event-sound all s c h = go (lookup rows c) refl
+    where
+      go : (o : Option EventRow) → lookup rows c ≡ o → SoundResult rows (occurring s o)
+      go none e = tt
+      go (some r) e =
+          record {
+            values = h;
+            lines = one-own rows (r .log) (s .clock) (r .code) (row-held rows c r e (row-log rows all c r e));
+          }
+
+  clear-log-sound : (s : Values) (n : ℕ) → soundValues s ≡ true → SoundResult rows (clearLogResult s n)
+  unfolding clearLogResult
+  clear-log-sound s n h =
+      either (SoundResult rows) (isLog n)
+      (λ l. record { values = h; lines = further-own rows n (s .clock) 255 l (clear-listed n) })
+      (λ l. tt)
+
+  script-sound : (s : Values) (n : ℕ) → soundValues s ≡ true → SoundResult rows (scriptResult s n)
+  unfolding scriptResult
+  script-sound s n h =
+      either (SoundResult rows) (eqb n 1) (λ a. request-sound s request.RemoteDisconnect h)
+      (λ a. either (SoundResult rows) (eqb n 2) (λ b. request-sound s request.RemoteReconnect h) (λ b. tt))
+
+  pub result-sound : every lawful rows ≡ true → (s : Values) (c : AnyCall) → AnyInRange c → soundValues s ≡ true → SoundResult rows (result rows s c)
+  unfolding soundValues besides among every
+  result-sound all s (sample ps) i h = sample-sound s ps h
+  result-sound all s (requestCall q) i h = request-sound s (requestOf q) h
+  result-sound all s (setMode n) i h = mode-sound s n h
+  result-sound all s (setLimiter ts o u) i h = limits-sound s ts o u i h
+  result-sound all s (setClock n) i h =
+      record {
+        values = h;
+        lines =
+            every-append (λ x. mayHold rows 1 (x .code)) (line (s .clock) 4 ∷ []) (line n 5 ∷ [])
+            (further-own rows 1 (s .clock) 4 refl refl) (further-own rows 1 n 5 refl refl);
+      }
+  result-sound all s (event c) i h = event-sound all s c h
+  result-sound all s (setFilter alarms n) i h = record { values = h; lines = refl }
+  result-sound all s (setFilter errors n) i h = record { values = h; lines = refl }
+  result-sound all s (clearBits alarms n) i h = record { values = h; lines = further-own rows 1 (s .clock) 11 refl refl }
+  result-sound all s (clearBits errors n) i h = record { values = h; lines = further-own rows 1 (s .clock) 10 refl refl }
+  result-sound all s (clearLog n) i h = clear-log-sound s n h
+  result-sound all s (script n) i h = script-sound s n h
+
+  -- ---- with the logs
+  after-sound : (v : State) (r : Result) → soundState rows v ≡ true → SoundResult rows r → soundState rows (afterResult v r) ≡ true
+  unfolding soundState
+  after-sound v (refusing n) e k = e
+  after-sound v (making r) e k =
+      let logs = and-right (soundValues (v .values)) (soundLists rows (v .logs)) e in
+      rw (k .values)
+      (appended-sound rows (emptied (r .cleared) (v .logs)) (emptied-sound rows (v .logs) logs (r .cleared)) (r .log) (r .lines) (k .lines))
+
+module _ (rows : List EventRow) (all : every lawful rows ≡ true) where
+  values-sound : (v : State) → soundState rows v ≡ true → soundValues (v .values) ≡ true
+  unfolding soundState
+  values-sound v e = and-left (soundValues (v .values)) (soundLists rows (v .logs)) e
+
+  pub kept-sound : (v : State) (c : AnyCall) → AnyInRange c → soundState rows v ≡ true → soundState rows (afterResult v (result rows (v .values) c)) ≡ true
+  kept-sound v c i e = after-sound rows v (result rows (v .values) c) e (result-sound rows all (v .values) c i (values-sound v e))
+
+-- ---- the fresh meter
+pub fresh-sound : (rows : List EventRow) (f : AnyFresh) → AnySettings f → soundState rows (freshValues f) ≡ true
+unfolding soundState soundValues soundControl soundLists below every
+fresh-sound rows f h =
+    rw (h .mode, or-true, fresh-limiters f (f .thresholds) (h .thresholds) (h .over) (h .under))

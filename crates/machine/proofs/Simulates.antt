@@ -1,0 +1,145 @@
+-- After any list of calls the machine's values are those that the account names: fresh, after one more accepted call, after a refused one. For
+-- any number of monitored values.
+use Prim.Native.Nat.{ℕ, suc, _+_}
+use native.Mathlib.Omega.{arith}
+use mathlib.Core.Path.{_≡_, refl, ap, sym, _∙_}
+use mathlib.Core.Bool.{true, cond, and-not-self}
+use mathlib.Core.List.{List, [], _∷_, map}
+use lib.Dec.{eqb}
+use Rattle.base.specs.Numbers.{held}
+use Rattle.base.specs.Bits.{number}
+use Rattle.base.specs.Tests.{every}
+use Rattle.events.specs.Line.{newest}
+use Rattle.events.specs.Table.{EventRow, lawful}
+use Rattle.calls.specs.Calls.{Word}
+use Rattle.history.specs.Effects.{AnyFresh, AnyCall, alarms, errors, Effect, Reading, refused, accepted, reading}
+use Rattle.history.specs.Last.{History, last, samplesSince, modeOf}
+use Rattle.history.specs.Limiter.{exceeded, trailing, sinceSetting, monitoredValues, observations}
+use Rattle.history.specs.Switch.{spell, switchOf}
+use Rattle.history.specs.Registers.{stands}
+use Rattle.history.specs.Logs.{owed}
+use Rattle.history.specs.Account.{monitoredOf, grown, acceptedCalls, opens, openings, accountOf, accountAfter}
+use Rattle.machine.specs.Values.{State}
+use Rattle.machine.specs.Sound.{soundState}
+use Rattle.machine.specs.Machine.{stateAfter, result}
+use Rattle.machine.specs.Ranges.{AnySettings, AnyInRange, AllAnyInRange}
+use Rattle.machine.specs.Fresh.{freshLimiter, freshValues}
+use Rattle.machine.specs.Holding.{limiterHolding, valuesHolding}
+use Rattle.machine.proofs.Lists.{map-map, by-number}
+use Rattle.machine.proofs.Effects.{effectResult, readResult, Proper, AllProper, none, more, heldLimiters, heldValues, nextOpenings}
+use Rattle.machine.proofs.Answers.{by-reading, afterResult, proper}
+use Rattle.machine.proofs.Preserved.{kept-sound, fresh-sound}
+use Rattle.machine.proofs.Clock.{clock-after}
+use Rattle.machine.proofs.Registers.{register-after}
+use Rattle.machine.proofs.Switch.{control-kept, limiters-after}
+use Rattle.machine.proofs.Lines.{logs-after}
+use Rattle.machine.proofs.Owed.{owing-after}
+
+-- the account's monitored values, as limiters
+limiters-held : (f : AnyFresh) (h : History) (n : ℕ) → map (limiterHolding (accountOf f h n)) (accountOf f h n .monitored) ≡ heldLimiters f h
+limiters-held f h n = map-map (limiterHolding (accountOf f h n)) (monitoredOf f h) (monitoredValues f)
+
+-- the values that an account names, its limiters in one step
+abbrev stated : AnyFresh → History → ℕ → State
+stated f h n = record { values = heldValues f h (held n); logs = accountOf f h n .logs }
+
+held-stated : (f : AnyFresh) (h : History) (n : ℕ) → valuesHolding (accountOf f h n) ≡ stated f h n
+held-stated f h n =
+    let v = stated f h n .values in
+    λ i. record {
+      values = record { control = v .control; limiters = limiters-held f h n i; clock = v .clock; alarms = v .alarms; errors = v .errors };
+      logs = stated f h n .logs;
+    }
+
+-- one more accepted call
+stated-after : (f : AnyFresh) (h : History) (e : Effect) (n : ℕ) → AnySettings f → AllProper f h → Proper (modeOf f h) e
+    → stateAfter (stated f h n) (effectResult (heldValues f h (held n)) e) ≡ stated f (e ∷ h) (nextOpenings f e h n)
+stated-after f h e n t all g =
+    let s = heldValues f h (held n) in
+    λ i. record {
+      values =
+          record {
+            control = control-kept f h e n t all g i;
+            limiters = limiters-after f h e n t all g i;
+            clock = clock-after f h s refl e g i;
+            alarms = register-after f h s all alarms e g refl i;
+            errors = register-after f h s all errors e g refl i;
+          };
+      logs = logs-after f e h (effectResult s e) (owing-after f h n t all e g) i;
+    }
+
+pub effect-after : (f : AnyFresh) (h : History) (e : Effect) (n : ℕ) → AnySettings f → AllProper f h → Proper (modeOf f h) e
+    → (let v = valuesHolding (accountOf f h n) in stateAfter v (effectResult (v .values) e)) ≡ valuesHolding (accountOf f (e ∷ h) (nextOpenings f e h n))
+effect-after f h e n t all g =
+    ap (λ (v : State). stateAfter v (effectResult (v .values) e)) (held-stated f h n)
+    ∙ stated-after f h e n t all g
+    ∙ sym (held-stated f (e ∷ h) (nextOpenings f e h n))
+
+-- no call: a fresh meter's values are those that the account of no call names
+pub fresh-values : (f : AnyFresh) → AnySettings f → freshValues f ≡ valuesHolding (accountOf f [] 0)
+unfolding last samplesSince observations exceeded trailing sinceSetting spell switchOf stands number owed newest
+fresh-values f t =
+    let v = freshValues f in
+    λ i. record {
+      values =
+          record {
+            control = v .values .control;
+            limiters = (by-number (freshLimiter f) (f .thresholds) ∙ sym (limiters-held f [] 0)) i;
+            clock = word (f .clock) (t .clock) i;
+            alarms = v .values .alarms;
+            errors = v .values .errors;
+          };
+      logs = v .logs;
+    }
+  where
+    word : (n : ℕ) → Word n → n ≡ held (n + 0)
+    word n w = omega arith
+
+-- ---- a whole list of calls
+-- a refused call changes no prefix's account
+refused-openings : (s n : ℕ) → cond (opens s s) (suc n) n ≡ n
+refused-openings s n = rw (and-not-self (eqb s 1))
+
+module _ (rows : List EventRow) (table : every lawful rows ≡ true) (f : AnyFresh) (t : AnySettings f) where
+  -- the values that the account of a list names; newest call first
+  abbrev pub named : List AnyCall → State
+  named cs = valuesHolding (accountAfter rows f cs)
+
+  -- the accepted calls of a list are proper
+  pub all-proper : (cs : List AnyCall) → AllAnyInRange cs → AllProper f (acceptedCalls rows f cs)
+  unfolding acceptedCalls
+  all-proper [] i = none
+  all-proper (c ∷ cs) i = go (reading rows m c) refl (all-proper cs (i .1))
+    where
+      h : History
+      h = acceptedCalls rows f cs
+
+      m : ℕ
+      m = modeOf f h
+
+      go : (x : Reading) → reading rows m c ≡ x → AllProper f h → AllProper f (grown x h)
+      go (refused n) e a = a
+      go (accepted x) e a = more (proper rows table m c x (i .0) e) a
+
+  -- one more call, accepted or refused
+  pub next : (c : AnyCall) (cs : List AnyCall) → AnyInRange c → AllAnyInRange cs → afterResult (named cs) (result rows (named cs .values) c) ≡ named (c ∷ cs)
+  unfolding acceptedCalls openings
+  next c cs i k = rw (by-reading rows (named cs .values) c) (go (reading rows (modeOf f h) c) refl)
+    where
+      h : History
+      h = acceptedCalls rows f cs
+
+      n : ℕ
+      n = openings rows f cs
+
+      go : (x : Reading) → reading rows (modeOf f h) c ≡ x
+          → afterResult (named cs) (readResult (named cs .values) x)
+          ≡ valuesHolding (accountOf f (grown x h) (cond (opens (switchOf f h) (switchOf f (grown x h))) (suc n) n))
+      go (refused k) e = ap (λ (o : ℕ). valuesHolding (accountOf f h o)) (sym (refused-openings (switchOf f h) n))
+      go (accepted x) e = effect-after f h x n t (all-proper cs k) (proper rows table (modeOf f h) c x i e)
+
+  -- the values that the account names are sound
+  pub named-sound : (cs : List AnyCall) → AllAnyInRange cs → soundState rows (named cs) ≡ true
+  unfolding acceptedCalls openings
+  named-sound [] i = rw (← fresh-values f t) (fresh-sound rows f t)
+  named-sound (c ∷ cs) i = rw (← next c cs (i .0) (i .1)) (kept-sound rows table (named cs) c (i .0) (named-sound cs (i .1)))

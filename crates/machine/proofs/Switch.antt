@@ -1,0 +1,444 @@
+-- The switch: after each accepted call the machine's mode, switch and openings, and the line of a move, are those of the account.
+use Prim.Native.Nat.{ℕ, suc, _+_}
+use native.Mathlib.Omega.{arith}
+use mathlib.Core.Path.{_≡_, refl, ap, ap₂, _∙_}
+use mathlib.Core.Bool.{Bool, true, false, not, _&&_, _||_, cond, Bool·beq, and-not-self}
+use mathlib.Core.List.{List, [], _∷_, _++_, map, append-nil}
+use mathlib.Core.Option.{none as nothing}
+use lib.Dec.{eqb, leb}
+use lib.IntN.{ℤ}
+use borrow.Author.Tests.{leb-true, eqb-true, eq-eqb}
+use Rattle.base.specs.Numbers.{held}
+use Rattle.base.specs.Tests.{within, among, every, below, gathered}
+use Rattle.base.proofs.Bools.{beq-eq}
+use Rattle.base.proofs.Every.{among-passes}
+use Rattle.base.proofs.Below.{below-at}
+use Rattle.events.specs.Line.{Line, line}
+use Rattle.control.specs.declared.Control.{Control}
+use Rattle.control.specs.declared.Request.the-variants as request
+use Rattle.control.specs.declared.Decision.{Decision}
+use Rattle.control.specs.declared.Decision.the-variants.{Move, Stay, NotListed}
+use Rattle.control.specs.Table.{switchTable}
+use Rattle.control.specs.Control.{orStay, decision, modeDecision, movedTo}
+use Rattle.control.proofs.Answers.{answered, rows}
+use Rattle.limiter.specs.declared.Limiter.{Limiter}
+use Rattle.limiter.specs.declared.Watched.{Watched}
+use Rattle.history.specs.Effects.{AnyFresh, RequestCall, remoteDisconnect, remoteReconnect, manualDisconnect, manualReconnect, alarms, errors, Effect, sampled, requested, modeSet, limitsSet, clockSet, occurred, filterSet, bitsCleared, logCleared, listedModes}
+use Rattle.history.specs.Last.{History, otherwise, given, last, modeOf, clockOf}
+use Rattle.history.specs.Limiter.{firesOver, firesUnder, monitoredValues, observations, exceededOf}
+use Rattle.history.specs.Switch.{spell, triesDisconnect, triesReconnect, decides, switchOf}
+use Rattle.history.specs.Logs.{when, moves, requestCode, localCode}
+use Rattle.history.specs.Account.{opens}
+use Rattle.machine.specs.Values.{Values, withControl, withLimiters, withClock}
+use Rattle.machine.specs.Machine.{Change, owing, lineNow, moving, decided, requestOf, firedLines, disconnectTried, reconnectTried, afterSample, sampleResult}
+use Rattle.machine.specs.Ranges.{AnySettings}
+use Rattle.machine.proofs.Lists.{map-map, any-map, any-ext, gathered-map, gathered-ext}
+use Rattle.machine.proofs.Ranges.{mode-range}
+use Rattle.machine.proofs.Effects.{effectResult, Proper, AllProper, heldControl, heldLimiters, heldValues, nextOpenings}
+use Rattle.machine.proofs.Stretches.{changes, watchedOf, sampled-watched, limiters-limited}
+
+-- every request lists modes 1 to 6 only, a manual disconnect 1, 2 and 5
+listed-mode : (q : RequestCall) (m : ℕ) → among (listedModes q) m ≡ true → within 1 6 m ≡ true
+unfolding every
+listed-mode remoteDisconnect m e = among-passes (within 1 6) (listedModes remoteDisconnect) m refl e
+listed-mode remoteReconnect m e = among-passes (within 1 6) (listedModes remoteReconnect) m refl e
+listed-mode manualDisconnect m e = among-passes (within 1 6) (listedModes manualDisconnect) m refl e
+listed-mode manualReconnect m e = among-passes (within 1 6) (listedModes manualReconnect) m refl e
+
+disconnect-mode : (m : ℕ) → among (listedModes manualDisconnect) m ≡ true → eqb m 5 || within 1 2 m ≡ true
+unfolding every
+disconnect-mode m e = among-passes (λ k. eqb k 5 || within 1 2 k) (listedModes manualDisconnect) m refl e
+
+-- two tests that agree at 0 to 6 agree at a mode: 1 to 6 is outside mode 0, and 5 to 6 is 5 or 6
+same-test : (t u : ℕ → Bool) (m : ℕ) → below 7 (λ k. Bool·beq (t k) (u k)) ≡ true → leb m 6 ≡ true → t m ≡ u m
+same-test t u m e h =
+    beq-eq (t m) (u m) (below-at (λ k. Bool·beq (t k) (u k)) m 7 (omega (arith, leb-true m 6 h)) e)
+
+outside-zero : (m : ℕ) → leb m 6 ≡ true → within 1 6 m ≡ not (eqb m 0)
+unfolding below
+outside-zero m h = same-test (within 1 6) (λ k. not (eqb k 0)) m refl h
+
+five-six : (m : ℕ) → leb m 6 ≡ true → within 5 6 m ≡ among (5 ∷ 6 ∷ []) m
+unfolding below among
+five-six m h = same-test (within 5 6) (among (5 ∷ 6 ∷ [])) m refl h
+
+five-listed : (m : ℕ) → among (5 ∷ 6 ∷ []) m ≡ true → within 1 6 m ≡ true
+unfolding every
+five-listed m e = among-passes (within 1 6) (5 ∷ 6 ∷ []) m refl e
+
+-- whether a sample tries g, and whether h
+abbrev triedG : AnyFresh → History → List ℤ → Bool
+triedG f h ps = triesDisconnect f (λ k. observations f k h) (λ k. observations f k (sampled ps ∷ h))
+
+abbrev triedH : AnyFresh → History → List ℤ → Bool
+triedH f h ps = triesReconnect f (λ k. observations f k h) (λ k. observations f k (sampled ps ∷ h))
+
+-- ---- what the last deciding call gives: 1 or 2
+data OneOrTwo : ℕ → Type 0 where
+  one : OneOrTwo 1
+  two : OneOrTwo 2
+
+-- each deciding call gives 1 or 2
+decided-given : (x : Bool) {k c : ℕ} → OneOrTwo k → OneOrTwo c → OneOrTwo (otherwise (given x k) c)
+decided-given true p q = p
+decided-given false p q = q
+
+decided-sample : (s a x u : Bool) {c : ℕ} → OneOrTwo c → OneOrTwo (otherwise (cond s nothing (cond a (given x 2) (given u 1))) c)
+decided-sample true a x u p = p
+decided-sample false true x u p = decided-given x two p
+decided-sample false false x u p = decided-given u one p
+
+decided-cond : (x : Bool) → OneOrTwo (cond x 1 2)
+decided-cond true = one
+decided-cond false = two
+
+last-decided : (f : AnyFresh) (h : History) → OneOrTwo (last (decides f) 1 h)
+unfolding last
+last-decided f [] = one
+last-decided f (sampled ps ∷ h) =
+    decided-sample (spell h) (triedG f h ps) (not (eqb (modeOf f h) 0)) (triedH f h ps && among (5 ∷ 6 ∷ []) (modeOf f h)) (last-decided f h)
+last-decided f (requested remoteDisconnect ∷ h) = last-decided f h
+last-decided f (requested remoteReconnect ∷ h) = decided-given (spell h) (decided-cond (among (2 ∷ 4 ∷ []) (modeOf f h))) (last-decided f h)
+last-decided f (requested manualDisconnect ∷ h) = decided-given (not (spell h)) two (last-decided f h)
+last-decided f (requested manualReconnect ∷ h) = decided-given (not (spell h)) one (last-decided f h)
+last-decided f (modeSet n ∷ h) = decided-given (eqb n 0) one (last-decided f h)
+last-decided f (limitsSet t o u ∷ h) = last-decided f h
+last-decided f (clockSet n ∷ h) = last-decided f h
+last-decided f (occurred r ∷ h) = last-decided f h
+last-decided f (filterSet r n ∷ h) = last-decided f h
+last-decided f (bitsCleared r n ∷ h) = last-decided f h
+last-decided f (logCleared n ∷ h) = last-decided f h
+
+-- ---- the decisions
+-- a change of the switch as a decision: none, or a move with its line, out of 1 or not
+abbrev pub change : ℕ → ℕ → ℕ → Decision
+change from to code = cond (eqb from to) Stay (Move to code (eqb from 1))
+
+-- a decision carries out the account's change of the switch at a call, with this line
+abbrev pub Switches : AnyFresh → Effect → History → ℕ → Decision → Type 0
+Switches f e h code d = orStay d ≡ change (switchOf f h) (switchOf f (e ∷ h)) code
+
+-- the rows of each request, in each position: inside a spell (s) it is 0, else what the last deciding call gave (c)
+module _ (m : ℕ) (listed : within 1 6 m ≡ true) where
+  remote-disconnect : (s : Bool) {c : ℕ} → OneOrTwo c → orStay (answered request.RemoteDisconnect m (cond s 0 c)) ≡ change (cond s 0 c) 0 62
+  unfolding answered
+  remote-disconnect true p = rw listed
+  remote-disconnect false one = rw listed
+  remote-disconnect false two = rw listed
+
+  remote-reconnect : (s x : Bool) → among (2 ∷ 4 ∷ []) m ≡ x → {c : ℕ} → OneOrTwo c
+      → orStay (answered request.RemoteReconnect m (cond s 0 c))
+      ≡ change (cond s 0 c) (otherwise (given s (cond x 1 2)) c) (cond (eqb (otherwise (given s (cond x 1 2)) c) 1) 63 59)
+  unfolding answered
+  remote-reconnect true true e p = rw (listed, e)
+  remote-reconnect true false e p = rw (listed, e)
+  remote-reconnect false true e one = rw (listed, e)
+  remote-reconnect false true e two = rw (listed, e)
+  remote-reconnect false false e one = rw (listed, e)
+  remote-reconnect false false e two = rw (listed, e)
+
+  manual-disconnect : eqb m 5 || within 1 2 m ≡ true → (s : Bool) {c : ℕ} → OneOrTwo c
+      → orStay (answered request.ManualDisconnect m (cond s 0 c)) ≡ change (cond s 0 c) (cond s 0 (otherwise (given (not s) 2) c)) 60
+  unfolding answered
+  manual-disconnect e true p = rw (listed, e)
+  manual-disconnect e false one = rw (listed, e)
+  manual-disconnect e false two = rw (listed, e)
+
+  manual-reconnect : (s : Bool) {c : ℕ} → OneOrTwo c
+      → orStay (answered request.ManualReconnect m (cond s 0 c)) ≡ change (cond s 0 c) (cond s 0 (otherwise (given (not s) 1) c)) 61
+  unfolding answered
+  manual-reconnect true p = rw listed
+  manual-reconnect false one = rw listed
+  manual-reconnect false two = rw listed
+
+-- a request
+pub request-switches : (f : AnyFresh) (h : History) (q : RequestCall) → Proper (modeOf f h) (requested q)
+    → Switches f (requested q) h (requestCode q (switchOf f (requested q ∷ h))) (decision switchTable (requestOf q) (modeOf f h) (switchOf f h))
+unfolding switchOf spell last
+request-switches f h remoteDisconnect p =
+    rw rows (remote-disconnect (modeOf f h) (listed-mode remoteDisconnect (modeOf f h) p) (spell h) (last-decided f h))
+request-switches f h remoteReconnect p =
+    rw rows (remote-reconnect (modeOf f h) (listed-mode remoteReconnect (modeOf f h) p) (spell h) (among (2 ∷ 4 ∷ []) (modeOf f h)) refl (last-decided f h))
+request-switches f h manualDisconnect p =
+    rw rows (manual-disconnect (modeOf f h) (listed-mode manualDisconnect (modeOf f h) p) (disconnect-mode (modeOf f h) p) (spell h) (last-decided f h))
+request-switches f h manualReconnect p =
+    rw rows (manual-reconnect (modeOf f h) (listed-mode manualReconnect (modeOf f h) p) (spell h) (last-decided f h))
+
+-- a mode
+mode-rows : (n : ℕ) (s z : Bool) → eqb n 0 ≡ z → {c : ℕ} → OneOrTwo c
+    → orStay (modeDecision n (cond s 0 c)) ≡ change (cond s 0 c) (cond (otherwise (given z false) s) 0 (otherwise (given z 1) c)) 63
+unfolding modeDecision
+mode-rows n true true e p = rw e
+mode-rows n true false e p = rw e
+mode-rows n false true e one = rw e
+mode-rows n false true e two = rw e
+mode-rows n false false e one = rw e
+mode-rows n false false e two = rw e
+
+pub mode-switches : (f : AnyFresh) (h : History) (n : ℕ) → Switches f (modeSet n) h 63 (modeDecision n (switchOf f h))
+unfolding switchOf spell last
+mode-switches f h n = mode-rows n (spell h) (eqb n 0) refl (last-decided f h)
+
+-- a sample: g tried (a), h tried (b), outside mode 0 (x), in mode 5 or 6 (y)
+abbrev sampledTo : Bool → ℕ → Bool → Bool → Bool → Bool → ℕ
+sampledTo s c a b x y = cond s 0 (otherwise (cond s nothing (cond a (given x 2) (given (b && y) 1))) c)
+
+sample-stays : (s x y : Bool) (c : ℕ) → sampledTo s c false false x y ≡ cond s 0 c
+sample-stays true x y c = refl
+sample-stays false x y c = refl
+
+local-disconnect : (m : ℕ) (s b x y : Bool) → within 1 6 m ≡ x → {c : ℕ} → OneOrTwo c
+    → orStay (answered request.LocalDisconnect m (cond s 0 c)) ≡ change (cond s 0 c) (sampledTo s c true b x y) (localCode (sampledTo s c true b x y))
+unfolding answered
+local-disconnect m true b true y e p = rw e
+local-disconnect m true b false y e p = rw e
+local-disconnect m false b true y e one = rw e
+local-disconnect m false b true y e two = rw e
+local-disconnect m false b false y e one = rw e
+local-disconnect m false b false y e two = rw e
+
+-- outside modes 5 and 6 a local reconnect is not listed
+unlisted : (x : Bool) → cond x NotListed NotListed ≡ NotListed
+unlisted true = refl
+unlisted false = refl
+
+local-reconnect : (m : ℕ) (s x y : Bool) → within 5 6 m ≡ y → (y ≡ true → within 1 6 m ≡ true) → {c : ℕ} → OneOrTwo c
+    → orStay (answered request.LocalReconnect m (cond s 0 c)) ≡ change (cond s 0 c) (sampledTo s c false true x y) (localCode (sampledTo s c false true x y))
+unfolding answered
+local-reconnect m true x true e k p = rw (e, k refl)
+local-reconnect m false x true e k one = rw (e, k refl)
+local-reconnect m false x true e k two = rw (e, k refl)
+local-reconnect m true x false e k p = rw (e, unlisted)
+local-reconnect m false x false e k one = rw (e, unlisted)
+local-reconnect m false x false e k two = rw (e, unlisted)
+
+-- a sample that tries g, one that tries h, and one that tries nothing
+module _ (f : AnyFresh) (h : History) (ps : List ℤ) where
+  -- where the switch is after the sample
+  sampled-to : switchOf f (sampled ps ∷ h)
+      ≡ sampledTo (spell h) (last (decides f) 1 h) (triedG f h ps) (triedH f h ps) (not (eqb (modeOf f h) 0)) (among (5 ∷ 6 ∷ []) (modeOf f h))
+  unfolding switchOf spell last
+  sampled-to = refl
+
+  pub over-switches : AnySettings f → AllProper f h → triedG f h ps ≡ true
+      → Switches f (sampled ps) h (localCode (switchOf f (sampled ps ∷ h))) (decision switchTable request.LocalDisconnect (modeOf f h) (switchOf f h))
+  unfolding switchOf
+  over-switches s a e =
+      let m = modeOf f h in
+      rw (rows, sampled-to, e)
+      (local-disconnect m (spell h) (triedH f h ps) (not (eqb m 0)) (among (5 ∷ 6 ∷ []) m) (outside-zero m (mode-range f s h a)) (last-decided f h))
+
+  pub under-switches : AnySettings f → AllProper f h → triedG f h ps ≡ false → triedH f h ps ≡ true
+      → Switches f (sampled ps) h (localCode (switchOf f (sampled ps ∷ h))) (decision switchTable request.LocalReconnect (modeOf f h) (switchOf f h))
+  unfolding switchOf
+  under-switches s a e e′ =
+      let m = modeOf f h in
+      rw (rows, sampled-to, e, e′)
+      (local-reconnect m (spell h) (not (eqb m 0)) (among (5 ∷ 6 ∷ []) m) (five-six m (mode-range f s h a)) (five-listed m) (last-decided f h))
+
+  pub sample-switches : triedG f h ps ≡ false → triedH f h ps ≡ false → switchOf f (sampled ps ∷ h) ≡ switchOf f h
+  unfolding switchOf
+  sample-switches e e′ =
+      rw (sampled-to, e, e′)
+      (sample-stays (spell h) (not (eqb (modeOf f h) 0)) (among (5 ∷ 6 ∷ []) (modeOf f h)) (last (decides f) 1 h))
+
+-- ---- decisions carried out
+-- the control with its switch in a position, its openings counted as the account counts them
+abbrev pub switchedTo : Control → ℕ → Control
+switchedTo c to = movedTo c to (opens (c .state) to)
+
+stays-in : (c : Control) → switchedTo c (c .state) ≡ c
+stays-in c = rw (and-not-self (eqb (c .state) 1))
+
+-- a change to another position opens exactly if it leaves 1
+leaves-one : (from to : ℕ) → eqb from to ≡ false → opens from to ≡ eqb from 1
+leaves-one from to e = go (eqb from 1) (eqb to 1) refl refl
+  where
+    go : (x y : Bool) → eqb from 1 ≡ x → eqb to 1 ≡ y → x && not y ≡ x
+    go true true p q = cc (eqb-true to 1 q)
+    go true false p q = refl
+    go false y p q = refl
+
+-- a decision that carries out a change: the control, and the line behind those already owed
+pub moving-switched : (s : Values) (xs : List Line) (d : Decision) (to code : ℕ) → orStay d ≡ change (s .control .state) to code
+    → moving s xs d ≡ owing (withControl s (switchedTo (s .control) to)) 3 (xs ++ when (not (eqb (s .control .state) to)) (lineNow s code ∷ []))
+moving-switched s xs d to code e = either-way d ∙ ap (moving s xs) e ∙ go (eqb (s .control .state) to) refl
+  where
+    either-way : (d : Decision) → moving s xs d ≡ moving s xs (orStay d)
+    either-way (Move t c o) = refl
+    either-way Stay = refl
+    either-way NotListed = refl
+
+    go : (x : Bool) → eqb (s .control .state) to ≡ x
+        → moving s xs (cond x Stay (Move to code (eqb (s .control .state) 1)))
+        ≡ owing (withControl s (switchedTo (s .control) to)) 3 (xs ++ when (not x) (lineNow s code ∷ []))
+    go true q = rw (← eqb-true (s .control .state) to q, stays-in (s .control), append-nil)
+    go false q = rw (leaves-one (s .control .state) to q)
+
+-- ---- the results of the calls that may move the switch, whole
+-- 'held as above': a held count gains one as the count itself does
+held-next : (x : Bool) (n : ℕ) → cond x (held (held n + 1)) (held n) ≡ held (cond x (suc n) n)
+held-next true n = omega arith
+held-next false n = refl
+
+-- the account's control, with its openings held, is switched to the account's next
+abbrev controlIn : ℕ → ℕ → ℕ → Control
+controlIn m s n = record { mode = m; state = s; openings = n }
+
+switched-control : (m from to n : ℕ) → switchedTo (controlIn m from (held n)) to ≡ controlIn m to (held (cond (opens from to) (suc n) n))
+switched-control m from to n = ap (controlIn m to) (held-next (opens from to) n)
+
+pub requested-result : (f : AnyFresh) (h : History) (q : RequestCall) (n : ℕ) → Proper (modeOf f h) (requested q)
+    → effectResult (heldValues f h (held n)) (requested q)
+    ≡ owing
+    (withControl
+    (withLimiters (heldValues f h (held n)) (heldLimiters f (requested q ∷ h)))
+    (heldControl f (requested q ∷ h) (held (nextOpenings f (requested q) h n))))
+    3
+    (when (moves f (requested q) h) (line (clockOf f h) (requestCode q (switchOf f (requested q ∷ h))) ∷ []))
+unfolding last observations
+requested-result f h q n p =
+    let s = withLimiters (heldValues f h (held n)) (heldLimiters f (requested q ∷ h)) in
+    let to = switchOf f (requested q ∷ h) in
+    moving-switched s [] (decided s (requestOf q)) to (requestCode q to) (request-switches f h q p)
+    ∙ ap (λ c. owing (withControl s c) 3 (when (moves f (requested q) h) (lineNow s (requestCode q to) ∷ [])))
+    (switched-control (modeOf f h) (switchOf f h) to n)
+
+pub mode-result : (f : AnyFresh) (h : History) (m n : ℕ)
+    → effectResult (heldValues f h (held n)) (modeSet m)
+    ≡ owing
+    (withControl (heldValues f h (held n)) (heldControl f (modeSet m ∷ h) (held (nextOpenings f (modeSet m) h n))))
+    3
+    (when (moves f (modeSet m) h) (line (clockOf f h) 63 ∷ []))
+unfolding last
+mode-result f h m n =
+    let s = withControl (heldValues f h (held n)) (controlIn m (switchOf f h) (held n)) in
+    let to = switchOf f (modeSet m ∷ h) in
+    moving-switched s [] (modeDecision m (switchOf f h)) to 63 (mode-switches f h m)
+    ∙ ap (λ c. owing (withControl s c) 3 (when (moves f (modeSet m) h) (lineNow s 63 ∷ [])))
+    (switched-control m (switchOf f h) to n)
+
+-- ---- a sample: what is fired, and what is tried
+fired-over : (e e′ : Bool) → changes e e′ && e′ ≡ not e && e′
+fired-over true true = refl
+fired-over true false = refl
+fired-over false true = refl
+fired-over false false = refl
+
+fired-under : (e e′ : Bool) → changes e e′ && not e′ ≡ e && not e′
+fired-under true true = refl
+fired-under true false = refl
+fired-under false true = refl
+fired-under false false = refl
+
+-- the line of one firing, as the machine and as the account have it
+firing-line : (now : ℕ) (e e′ : Bool)
+    → cond (changes e e′) (line now (cond e′ 65 66) ∷ []) [] ≡ when (not e && e′) (line now 65 ∷ []) ++ when (e && not e′) (line now 66 ∷ [])
+firing-line now true true = refl
+firing-line now true false = refl
+firing-line now false true = refl
+firing-line now false false = refl
+
+-- the lines of a sample's firings, in the order of the monitored values; `now` is the clock after it
+abbrev pub owedFirings : AnyFresh → History → List ℤ → ℕ → List Line
+owedFirings f h ps now =
+    gathered
+    (λ k. when (firesOver (observations f k h) (observations f k (sampled ps ∷ h))) (line now 65 ∷ [])
+    ++ when (firesUnder (observations f k h) (observations f k (sampled ps ∷ h))) (line now 66 ∷ []))
+    (monitoredValues f)
+
+module _ (f : AnyFresh) (h : History) (ps : List ℤ) where
+  tries-g : disconnectTried (map (watchedOf f h ps) (monitoredValues f)) ≡ triedG f h ps
+  tries-g =
+      any-map (λ w. w .fired && w .limiter .exceeded) (watchedOf f h ps) (monitoredValues f)
+      ∙ any-ext _ _ (monitoredValues f) (λ k. fired-over (exceededOf f k h) (exceededOf f k (sampled ps ∷ h)))
+
+  tries-h : reconnectTried (map (watchedOf f h ps) (monitoredValues f)) ≡ triedH f h ps
+  tries-h =
+      ap₂ (λ (a b : Bool). a && not b)
+      (any-map (λ w. w .fired && not (w .limiter .exceeded)) (watchedOf f h ps) (monitoredValues f)
+      ∙ any-ext _ _ (monitoredValues f) (λ k. fired-under (exceededOf f k h) (exceededOf f k (sampled ps ∷ h))))
+      (any-map (λ w. w .limiter .exceeded) (watchedOf f h ps) (monitoredValues f))
+
+  fires-lines : (s : Values) → gathered (firedLines s) (map (watchedOf f h ps) (monitoredValues f)) ≡ owedFirings f h ps (s .clock)
+  fires-lines s =
+      gathered-map (firedLines s) (watchedOf f h ps) (monitoredValues f)
+      ∙ gathered-ext _ _ (monitoredValues f) (λ k. firing-line (s .clock) (exceededOf f k h) (exceededOf f k (sampled ps ∷ h)))
+
+after-sample : (s : Values) (ws : List Watched) (g h : Bool) (xs : List Line) (to : ℕ) → disconnectTried ws ≡ g → reconnectTried ws ≡ h
+    → gathered (firedLines s) ws ≡ xs
+    → (g ≡ true → orStay (decided s request.LocalDisconnect) ≡ change (s .control .state) to (localCode to))
+    → (g ≡ false → h ≡ true → orStay (decided s request.LocalReconnect) ≡ change (s .control .state) to (localCode to))
+    → (g ≡ false → h ≡ false → to ≡ s .control .state)
+    → afterSample s ws ≡ owing (withControl s (switchedTo (s .control) to)) 3 (xs ++ when (not (eqb (s .control .state) to)) (lineNow s (localCode to) ∷ []))
+after-sample s ws true h xs to p q r over under stays =
+    rw (p, r) (moving-switched s xs (decided s request.LocalDisconnect) to (localCode to) (over refl))
+after-sample s ws false true xs to p q r over under stays =
+    rw (p, q, r) (moving-switched s xs (decided s request.LocalReconnect) to (localCode to) (under refl refl))
+after-sample s ws false false xs to p q r over under stays =
+    rw (p, q, r) (moving-switched s xs Stay to (localCode to) (unchanged (s .control .state) to (localCode to) (stays refl refl)))
+  where
+    unchanged : (from to code : ℕ) → to ≡ from → Stay ≡ change from to code
+    unchanged from to code e = rw (e, eq-eqb from from refl)
+
+-- the values after a sample, with the clock's next value as the machine has it
+abbrev pub sampledValues : AnyFresh → History → List ℤ → ℕ → Values
+sampledValues f h ps n =
+    withControl
+    (withLimiters (withClock (heldValues f h (held n)) (held (clockOf f h + 1))) (heldLimiters f (sampled ps ∷ h)))
+    (heldControl f (sampled ps ∷ h) (held (nextOpenings f (sampled ps) h n)))
+
+pub sampled-result : (f : AnyFresh) (h : History) (ps : List ℤ) (n : ℕ) → AnySettings f → AllProper f h
+    → effectResult (heldValues f h (held n)) (sampled ps)
+    ≡ owing (sampledValues f h ps n) 3
+    (owedFirings f h ps (held (clockOf f h + 1))
+    ++ when (moves f (sampled ps) h) (line (held (clockOf f h + 1)) (localCode (switchOf f (sampled ps ∷ h))) ∷ []))
+unfolding last sampleResult
+sampled-result f h ps n s a =
+    let now = held (clockOf f h + 1) in
+    let before = withClock (heldValues f h (held n)) now in
+    let ws = map (watchedOf f h ps) (monitoredValues f) in
+    let next = withLimiters before (heldLimiters f (sampled ps ∷ h)) in
+    let to = switchOf f (sampled ps ∷ h) in
+    ap (λ (ws : List Watched). afterSample (withLimiters before (map (λ w. w .limiter) ws)) ws) (sampled-watched f h ps s a)
+    ∙ ap (λ (ls : List Limiter). afterSample (withLimiters before ls) ws) (map-map (λ w. w .limiter) (watchedOf f h ps) (monitoredValues f))
+    ∙ after-sample next ws (triedG f h ps) (triedH f h ps) (owedFirings f h ps now) to
+    (tries-g f h ps) (tries-h f h ps) (fires-lines f h ps next)
+    (over-switches f h ps s a) (under-switches f h ps s a) (sample-switches f h ps)
+    ∙ ap (λ c. owing (withControl next c) 3 (owedFirings f h ps now ++ when (moves f (sampled ps) h) (line now (localCode to) ∷ [])))
+    (switched-control (modeOf f h) (switchOf f h) to n)
+
+-- ---- control and limiter after any accepted call
+-- where the switch stays, so do the openings
+unmoved : (f : AnyFresh) (h : History) (n : ℕ) → heldControl f h (held n) ≡ heldControl f h (held (cond (opens (switchOf f h) (switchOf f h)) (suc n) n))
+unmoved f h n = rw (and-not-self (eqb (switchOf f h) 1))
+
+pub control-kept : (f : AnyFresh) (h : History) (e : Effect) (n : ℕ) → AnySettings f → AllProper f h → Proper (modeOf f h) e
+    → effectResult (heldValues f h (held n)) e .values .control ≡ heldControl f (e ∷ h) (held (nextOpenings f e h n))
+unfolding last spell switchOf
+control-kept f h (sampled ps) n s a k = ap (λ (r : Change). r .values .control) (sampled-result f h ps n s a)
+control-kept f h (requested q) n s a k = ap (λ (r : Change). r .values .control) (requested-result f h q n k)
+control-kept f h (modeSet m) n s a k = ap (λ (r : Change). r .values .control) (mode-result f h m n)
+control-kept f h (limitsSet ts o u) n s a k = unmoved f h n
+control-kept f h (clockSet m) n s a k = unmoved f h n
+control-kept f h (occurred r) n s a k = unmoved f h n
+control-kept f h (filterSet alarms m) n s a k = unmoved f h n
+control-kept f h (filterSet errors m) n s a k = unmoved f h n
+control-kept f h (bitsCleared alarms m) n s a k = unmoved f h n
+control-kept f h (bitsCleared errors m) n s a k = unmoved f h n
+control-kept f h (logCleared m) n s a k = unmoved f h n
+
+pub limiters-after : (f : AnyFresh) (h : History) (e : Effect) (n : ℕ) → AnySettings f → AllProper f h → Proper (modeOf f h) e
+    → effectResult (heldValues f h (held n)) e .values .limiters ≡ heldLimiters f (e ∷ h)
+unfolding last observations
+limiters-after f h (sampled ps) n s a k = ap (λ (r : Change). r .values .limiters) (sampled-result f h ps n s a)
+limiters-after f h (requested q) n s a k = ap (λ (r : Change). r .values .limiters) (requested-result f h q n k)
+limiters-after f h (modeSet m) n s a k = ap (λ (r : Change). r .values .limiters) (mode-result f h m n)
+limiters-after f h (limitsSet ts o u) n s a k = limiters-limited f h ts o u
+limiters-after f h (clockSet m) n s a k = refl
+limiters-after f h (occurred r) n s a k = refl
+limiters-after f h (filterSet alarms m) n s a k = refl
+limiters-after f h (filterSet errors m) n s a k = refl
+limiters-after f h (bitsCleared alarms m) n s a k = refl
+limiters-after f h (bitsCleared errors m) n s a k = refl
+limiters-after f h (logCleared m) n s a k = refl

@@ -1,0 +1,40 @@
+-- The values of a meter: those of its record without the logs, and each log as a list of lines, oldest first.
+use Prim.Native.Nat.{ℕ}
+use mathlib.Core.List.{List}
+use Rattle.events.specs.Line.{Line}
+use Rattle.registers.specs.declared.Register.{Register}
+use Rattle.control.specs.declared.Control.{Control}
+use Rattle.limiter.specs.declared.Limiter.{Limiter}
+
+-- without the logs; a limiter for each monitored value, with the same Over and Under in each
+pub record Values : Type 0 where
+  pub control : Control
+  pub limiters : List Limiter
+  pub clock : ℕ
+  pub alarms : Register
+  pub errors : Register
+
+-- with the three logs
+pub record State : Type 0 where
+  pub values : Values
+  pub logs : List (List Line)
+
+-- with another control
+abbrev pub withControl : Values → Control → Values
+withControl v c = record { control = c; limiters = v .limiters; clock = v .clock; alarms = v .alarms; errors = v .errors }
+
+-- with other limiters
+abbrev pub withLimiters : Values → List Limiter → Values
+withLimiters v ls = record { control = v .control; limiters = ls; clock = v .clock; alarms = v .alarms; errors = v .errors }
+
+-- with another clock
+abbrev pub withClock : Values → ℕ → Values
+withClock v t = record { control = v .control; limiters = v .limiters; clock = t; alarms = v .alarms; errors = v .errors }
+
+-- with another alarm register
+abbrev pub withAlarms : Values → Register → Values
+withAlarms v r = record { control = v .control; limiters = v .limiters; clock = v .clock; alarms = r; errors = v .errors }
+
+-- with another error register
+abbrev pub withErrors : Values → Register → Values
+withErrors v r = record { control = v .control; limiters = v .limiters; clock = v .clock; alarms = v .alarms; errors = r }

@@ -1,0 +1,36 @@
+-- The scalars of document 01's meter, its record without the logs, and their values: one limiter for the one monitored value.
+use mathlib.Core.Bool.{Bool, false, _&&_}
+use mathlib.Core.List.{List, [], _∷_}
+use lib.IntN.{pos}
+use lib.ListN.{getD}
+use Rattle.control.specs.declared.Control.{Control}
+use Rattle.control.specs.Control.{soundControl}
+use Rattle.limiter.specs.declared.Limiter.{Limiter}
+use Rattle.limiter.specs.Limiter.{soundLimiter}
+use Rattle.machine.specs.Values.{Values}
+use Rattle.steps.specs.declared.Scalars.{Scalars}
+
+-- the values of scalars
+abbrev pub valuesOf : Scalars → Values
+valuesOf s = record { control = s .control; limiters = s .limiter ∷ []; clock = s .clock; alarms = s .alarms; errors = s .errors }
+
+-- the first limiter of a list
+abbrev pub firstLimiter : List Limiter → Limiter
+firstLimiter ls = getD ls 0 (record { threshold = pos 0; over = 0; under = 0; exceeded = false; run = 0 })
+
+-- the scalars of values with one limiter
+abbrev pub scalarsFrom : Values → Scalars
+scalarsFrom v = record { control = v .control; limiter = firstLimiter (v .limiters); clock = v .clock; alarms = v .alarms; errors = v .errors }
+
+-- with another control
+abbrev pub withControl : Scalars → Control → Scalars
+withControl s c = record { control = c; limiter = s .limiter; clock = s .clock; alarms = s .alarms; errors = s .errors }
+
+-- with another limiter
+abbrev pub withLimiter : Scalars → Limiter → Scalars
+withLimiter s l = record { control = s .control; limiter = l; clock = s .clock; alarms = s .alarms; errors = s .errors }
+
+-- 'A record is sound if these ranges hold, mode 0 has switch 1, Run is below Over (not Exceeded) or below Under (Exceeded) ..': control and limiter;
+-- the others are of 32 bits by their types
+unfoldable pub soundScalars : Scalars → Bool
+soundScalars s = soundControl (s .control) && soundLimiter (s .limiter)
