@@ -5,7 +5,7 @@
  *
  * A meter's state is its page of PILLAR_PAGE bytes, which the caller keeps.
  * The core does no input or output. It keeps nothing between calls, allocates
- * nothing, and uses under 3 KiB of stack (measured on x86-64 in a static
+ * nothing, and uses under 4 KiB of stack (measured on x86-64 in a static
  * program; no proof covers it). Two threads may call it at once on pages of
  * their own.
  *
