@@ -46,16 +46,5 @@ returns c =
 
 pub measure-sound-spec : {M : Type 1} → statement M
 measure-sound-spec =
-    tie.close
-    (tie.spec
-    Inv-loop
-    μ-loop
-    (λ c κs. search needs)
-    loop-holds
-    (λ c κs. search needs)
-    (λ c κs. search needs)
-    add-sound
-    (λ c. search needs)
-    (λ c. search needs)
-    loop-again
-    returns)
+    tie.close (tie.spec Inv-loop μ-loop (λ c κs. search needs) loop-holds (λ c κs. search needs) (λ c κs. search needs) add-sound
+    (λ c. search needs) (λ c. search needs) loop-again returns)

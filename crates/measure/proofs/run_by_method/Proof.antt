@@ -39,15 +39,5 @@ returns c =
 
 pub run-by-method-spec : {M : Type 1} → statement M
 run-by-method-spec =
-    tie.close
-    (tie.spec
-    Inv-loop
-    μ-loop
-    loop-holds
-    mul-record-at
-    (λ c κs. search needs)
-    (λ c κs. search needs)
-    add-i
-    (λ c. search needs)
-    loop-again
-    returns)
+    tie.close (tie.spec Inv-loop μ-loop loop-holds mul-record-at (λ c κs. search needs) (λ c κs. search needs) add-i (λ c. search needs)
+    loop-again returns)

@@ -28,15 +28,5 @@ returns c = tt
 
 pub print-area-spec : {M : Type 1} → statement M
 print-area-spec =
-    tie.close
-    (tie.spec
-    Inv-loop
-    μ-loop
-    loop-holds
-    (λ c. search needs)
-    print-byte-requires
-    (λ c. search needs)
-    (λ c. search needs)
-    loop-again
-    end-line-requires
-    returns)
+    tie.close (tie.spec Inv-loop μ-loop loop-holds (λ c. search needs) print-byte-requires (λ c. search needs) (λ c. search needs)
+    loop-again end-line-requires returns)

@@ -46,13 +46,5 @@ returns c =
 
 pub apply-sound-spec : {M : Type 1} → statement M
 apply-sound-spec =
-    tie.close
-    (tie.spec
-    (λ c κs. search needs)
-    (λ c κs. search needs)
-    array-share-prefix-line-clocks
-    slice-aggregate-append-lines
-    array-share-prefix-line-codes
-    slice-aggregate-append-lines-2
-    (λ c κs. search needs)
-    returns)
+    tie.close (tie.spec (λ c κs. search needs) (λ c κs. search needs) array-share-prefix-line-clocks slice-aggregate-append-lines
+    array-share-prefix-line-codes slice-aggregate-append-lines-2 (λ c κs. search needs) returns)

@@ -81,14 +81,5 @@ returns c =
 
 pub line-with-spec : {M : Type 1} → statement M
 line-with-spec =
-    tie.close
-    (tie.spec
-    (λ c. search needs)
-    put-field-requires
-    (λ c. search needs)
-    put-field-requires-2
-    (λ c. search needs)
-    put-field-requires-3
-    (λ c. search needs)
-    put-field-requires-4
-    returns)
+    tie.close (tie.spec (λ c. search needs) put-field-requires (λ c. search needs) put-field-requires-2 (λ c. search needs)
+    put-field-requires-3 (λ c. search needs) put-field-requires-4 returns)

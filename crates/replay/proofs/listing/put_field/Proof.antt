@@ -56,22 +56,5 @@ returns c =
 
 pub put-field-spec : {M : Type 1} → statement M
 put-field-spec =
-    tie.close
-    (tie.spec
-    Inv-loop
-    μ-loop
-    sub-at
-    slice-write-out
-    loop-holds
-    sub-at-2
-    (λ c. search needs)
-    (λ c. search needs)
-    slice-write-out-2
-    (λ c. search needs)
-    loop-again
-    sub-at-3
-    (λ c. search needs)
-    (λ c. search needs)
-    slice-write-out-3
-    same-length
-    returns)
+    tie.close (tie.spec Inv-loop μ-loop sub-at slice-write-out loop-holds sub-at-2 (λ c. search needs) (λ c. search needs) slice-write-out-2
+    (λ c. search needs) loop-again sub-at-3 (λ c. search needs) (λ c. search needs) slice-write-out-3 same-length returns)

@@ -75,20 +75,5 @@ returns-2 c =
 
 pub run-from-spec : {M : Type 1} → statement M
 run-from-spec =
-    tie.close
-    (tie.spec
-    Inv-loop
-    μ-loop
-    (λ c κs. search needs)
-    returns
-    (λ c κs. search needs)
-    loop-holds
-    mul-whole-record-at
-    (λ c κs. search needs)
-    (λ c. search needs)
-    (λ c κs. search needs)
-    add-i
-    (λ c. search needs)
-    loop-again
-    (λ c κs. search needs)
-    returns-2)
+    tie.close (tie.spec Inv-loop μ-loop (λ c κs. search needs) returns (λ c κs. search needs) loop-holds mul-whole-record-at
+    (λ c κs. search needs) (λ c. search needs) (λ c κs. search needs) add-i (λ c. search needs) loop-again (λ c κs. search needs) returns-2)
