@@ -1,13 +1,14 @@
 -- The call that a kind names is of that kind, and the kinds from 1 to 15 name one.
 use mathlib.Core.Path.{_≡_, refl, sym, _∙_}
 use mathlib.Core.Bool.{true, false, cond, and-false, false≢true}
-use Prim.Native.Nat.{ℕ, zero, suc, _≤_}
+use Prim.Native.Nat.{ℕ, suc, _≤_}
 use native.Mathlib.Omega.{arith}
 use lib.Dec.{eqb}
 use borrow.Author.Tests.{eqb-true, eqb-false, lt-leb}
 use Rattle.base.specs.Tests.{within}
 use Rattle.base.proofs.Bools.{by-test}
 use Rattle.calls.specs.declared.Call.{Call}
+use Rattle.calls.specs.declared.Command.{Command}
 use Rattle.calls.specs.declared.Parsed.{Parsed}
 use Rattle.calls.specs.declared.Parsed.the-variants.{Ok, NoKind}
 use Rattle.calls.specs.Calls.{kindOf, callOf}
@@ -24,35 +25,32 @@ or-later : (k j : ℕ) (x : Call) (rest : Parsed) → kindOf x ≡ j → within 
 or-later k j x rest d w later h =
     by-test (eqb k j) (λ q. rw (q, eqb-true k j q) (d, w)) (λ q. rw q (later (omega (arith, eqb-false k j q))))
 
-from-one : (k n1 n2 n3 n4 n5 : ℕ) → 1 ≤ k → Read k (callOf k n1 n2 n3 n4 n5)
+from-one : (r : Command) → 1 ≤ r .kind → Read (r .kind) (callOf r)
 unfolding callOf
-from-one k n1 n2 n3 n4 n5 =
+from-one r =
+    let k = r .kind in
     or-later k 1 _ _ refl refl (or-later k 2 _ _ refl refl (or-later k 3 _ _ refl refl (or-later k 4 _ _ refl refl (or-later k 5 _ _ refl refl
     (or-later k 6 _ _ refl refl (or-later k 7 _ _ refl refl (or-later k 8 _ _ refl refl (or-later k 9 _ _ refl refl (or-later k 10 _ _ refl refl
     (or-later k 11 _ _ refl refl (or-later k 12 _ _ refl refl (or-later k 13 _ _ refl refl (or-later k 14 _ _ refl refl (or-later k 15 _ _ refl refl
     (λ h. simp (lt-leb k 15 h, and-false))))))))))))))))
 
-read : (k n1 n2 n3 n4 n5 : ℕ) → Read k (callOf k n1 n2 n3 n4 n5)
-unfolding callOf
-read zero n1 n2 n3 n4 n5 = refl
-read (suc k) n1 n2 n3 n4 n5 = from-one (suc k) n1 n2 n3 n4 n5 (omega arith)
+module _ (r : Command) where
+  read : Read (r .kind) (callOf r)
+  unfolding callOf
+  read = by-test (eqb (r .kind) 0) (λ q. rw (eqb-true (r .kind) 0 q)) (λ q. from-one r (omega (arith, eqb-false (r .kind) 0 q)))
 
-module _ (k n1 n2 n3 n4 n5 : ℕ) where
-  abbrev parsed : Parsed
-  parsed = callOf k n1 n2 n3 n4 n5
+  kind-named : (c : Call) → callOf r ≡ Ok c → kindOf c ≡ r .kind
+  kind-named c e = (rw e at read) .0
 
-  kind-named : (c : Call) → parsed ≡ Ok c → kindOf c ≡ k
-  kind-named c e = (rw e at (read k n1 n2 n3 n4 n5)) .0
-
-  no-kind : within 1 15 k ≡ false → parsed ≡ NoKind
-  no-kind out = go parsed refl
+  no-kind : within 1 15 (r .kind) ≡ false → callOf r ≡ NoKind
+  no-kind out = go (callOf r) refl
     where
-      go : (p : Parsed) → parsed ≡ p → p ≡ NoKind
-      go (Ok c) e = absurd (false≢true (sym out ∙ (rw e at (read k n1 n2 n3 n4 n5)) .1))
+      go : (p : Parsed) → callOf r ≡ p → p ≡ NoKind
+      go (Ok c) e = absurd (false≢true (sym out ∙ (rw e at read) .1))
       go NoKind e = refl
 
-  some-kind : within 1 15 k ≡ true → parsed ≡ NoKind → ⊥
-  some-kind kind e = false≢true (sym (rw e at (read k n1 n2 n3 n4 n5)) ∙ kind)
+  some-kind : within 1 15 (r .kind) ≡ true → callOf r ≡ NoKind → ⊥
+  some-kind kind e = false≢true (sym (rw e at read) ∙ kind)
 
 pub laws : Laws
 laws = record { kind-named = kind-named; no-kind = no-kind; some-kind = some-kind }

@@ -10,6 +10,7 @@ use Rattle.calls.specs.declared.Call.{Call}
 use Rattle.calls.specs.declared.Call.the-variants.{Sample, RemoteDisconnect, RemoteReconnect, ManualDisconnect, ManualReconnect, SetMode, SetLimiter, SetClock, Event, SetAlarmFilter, SetErrorFilter, ClearAlarms, ClearErrors, ClearLog, Script}
 use Rattle.calls.specs.declared.Answer.{Answer}
 use Rattle.calls.specs.declared.Answer.the-variants.{Accepted, Refused}
+use Rattle.calls.specs.declared.Command.{Command}
 use Rattle.calls.specs.declared.Parsed.{Parsed}
 use Rattle.calls.specs.declared.Parsed.the-variants.{Ok, NoKind}
 
@@ -40,24 +41,29 @@ kindOf (Script n) = 15
 abbrev pub signedOf : ℕ → ℤ
 signedOf n = cond (ltb n 2147483648) (pos n) (negsuc (4294967295 - n))
 
--- the call of a kind and five numbers, 'unused ones ignored'; 13 is the refusal of a kind that is not 1–15
-unfoldable pub callOf : ℕ → ℕ → ℕ → ℕ → ℕ → ℕ → Parsed
-callOf k n1 n2 n3 n4 n5 =
-    cond (eqb k 1) (Ok (Sample (signedOf n1)))
+-- a command of this kind and these numbers
+abbrev pub commandOf : ℕ → ℕ → ℕ → ℕ → ℕ → ℕ → Command
+commandOf k n1 n2 n3 n4 n5 = record { kind = k; n1 = n1; n2 = n2; n3 = n3; n4 = n4; n5 = n5 }
+
+-- the call of a command's kind and five numbers, 'unused ones ignored'; 13 is the refusal of a kind that is not 1–15
+unfoldable pub callOf : Command → Parsed
+callOf r =
+    let k = r .kind in
+    cond (eqb k 1) (Ok (Sample (signedOf (r .n1))))
     (cond (eqb k 2) (Ok RemoteDisconnect)
     (cond (eqb k 3) (Ok RemoteReconnect)
     (cond (eqb k 4) (Ok ManualDisconnect)
     (cond (eqb k 5) (Ok ManualReconnect)
-    (cond (eqb k 6) (Ok (SetMode n1))
-    (cond (eqb k 7) (Ok (SetLimiter (signedOf n1) n2 n3))
-    (cond (eqb k 8) (Ok (SetClock n1))
-    (cond (eqb k 9) (Ok (Event n1))
-    (cond (eqb k 10) (Ok (SetAlarmFilter n1))
-    (cond (eqb k 11) (Ok (SetErrorFilter n1))
-    (cond (eqb k 12) (Ok (ClearAlarms n1))
-    (cond (eqb k 13) (Ok (ClearErrors n1))
-    (cond (eqb k 14) (Ok (ClearLog n1))
-    (cond (eqb k 15) (Ok (Script n1))
+    (cond (eqb k 6) (Ok (SetMode (r .n1)))
+    (cond (eqb k 7) (Ok (SetLimiter (signedOf (r .n1)) (r .n2) (r .n3)))
+    (cond (eqb k 8) (Ok (SetClock (r .n1)))
+    (cond (eqb k 9) (Ok (Event (r .n1)))
+    (cond (eqb k 10) (Ok (SetAlarmFilter (r .n1)))
+    (cond (eqb k 11) (Ok (SetErrorFilter (r .n1)))
+    (cond (eqb k 12) (Ok (ClearAlarms (r .n1)))
+    (cond (eqb k 13) (Ok (ClearErrors (r .n1)))
+    (cond (eqb k 14) (Ok (ClearLog (r .n1)))
+    (cond (eqb k 15) (Ok (Script (r .n1)))
     NoKind))))))))))))))
 
 -- a number of 32 bits

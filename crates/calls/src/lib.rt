@@ -46,7 +46,17 @@ impl Answer {
     }
 }
 
-// What a kind and its numbers name.
+// A kind and five numbers.
+pub struct Command {
+    pub kind: u32,
+    pub n1: u32,
+    pub n2: u32,
+    pub n3: u32,
+    pub n4: u32,
+    pub n5: u32,
+}
+
+// What a command names.
 pub enum Parsed {
     Ok(Call),
     NoKind,
@@ -63,26 +73,27 @@ pub fn signed(n: u32) -> i32
 }
 
 // All five numbers of a command are taken; a kind ignores those that it has no use for.
-pub fn read_kind(kind: u32, n1: u32, n2: u32, n3: u32, n4: u32, n5: u32) -> Parsed
-    ensures { λ r. ⌜ r ≡ callOf kind n1 n2 n3 n4 n5 ⌝ }
+pub fn read_kind(command: Command) -> Parsed
+    ensures { λ r. ⌜ r ≡ callOf command ⌝ }
     ensures laws { λ _. ⌜ Laws ⌝ }
 {
+    let kind = command.kind;
     match kind {
-        1 => Parsed::Ok(Call::Sample(signed(n1))),
+        1 => Parsed::Ok(Call::Sample(signed(command.n1))),
         2 => Parsed::Ok(Call::RemoteDisconnect),
         3 => Parsed::Ok(Call::RemoteReconnect),
         4 => Parsed::Ok(Call::ManualDisconnect),
         5 => Parsed::Ok(Call::ManualReconnect),
-        6 => Parsed::Ok(Call::SetMode(n1)),
-        7 => Parsed::Ok(Call::SetLimiter(signed(n1), n2, n3)),
-        8 => Parsed::Ok(Call::SetClock(n1)),
-        9 => Parsed::Ok(Call::Event(n1)),
-        10 => Parsed::Ok(Call::SetAlarmFilter(n1)),
-        11 => Parsed::Ok(Call::SetErrorFilter(n1)),
-        12 => Parsed::Ok(Call::ClearAlarms(n1)),
-        13 => Parsed::Ok(Call::ClearErrors(n1)),
-        14 => Parsed::Ok(Call::ClearLog(n1)),
-        15 => Parsed::Ok(Call::Script(n1)),
+        6 => Parsed::Ok(Call::SetMode(command.n1)),
+        7 => Parsed::Ok(Call::SetLimiter(signed(command.n1), command.n2, command.n3)),
+        8 => Parsed::Ok(Call::SetClock(command.n1)),
+        9 => Parsed::Ok(Call::Event(command.n1)),
+        10 => Parsed::Ok(Call::SetAlarmFilter(command.n1)),
+        11 => Parsed::Ok(Call::SetErrorFilter(command.n1)),
+        12 => Parsed::Ok(Call::ClearAlarms(command.n1)),
+        13 => Parsed::Ok(Call::ClearErrors(command.n1)),
+        14 => Parsed::Ok(Call::ClearLog(command.n1)),
+        15 => Parsed::Ok(Call::Script(command.n1)),
         _ => Parsed::NoKind,
     }
 }

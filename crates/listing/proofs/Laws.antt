@@ -9,8 +9,8 @@ use lib.ListN.{length, take, drop, length-append, length-take, length-drop, take
 use lib.Seq.{take-all}
 use borrow.Author.Tests.{ltb-true, ltb-false, eqb-true, lt-ltb, le-ltb, le-leb, lt-leb, eq-eqb, ne-eqb}
 use Rattle.base.proofs.Bools.{by-test}
+use Rattle.calls.specs.declared.Command.{Command}
 use Rattle.meter.specs.declared.Outcome.{Outcome}
-use Rattle.replay.specs.declared.Record.{Record}
 use Rattle.replay.specs.Replay.{recordLength, firstIn, recordsFrom, startOf, meterAfter}
 use Rattle.replay.specs.Listing.{lineOf}
 use Rattle.listing.specs.declared.Progress.{Progress}
@@ -68,12 +68,12 @@ short-listed s h =
     let same : length s % 21 ≡ length s = omega arith in
     rw (lt-ltb _ _ h, same)
 
-record-listed : (s : List ℕ) (r : Record) → firstIn s ≡ r → 21 ≤ length s
+record-listed : (s : List ℕ) (r : Command) → firstIn s ≡ r → 21 ≤ length s
     → listingOf s ≡ cond (eqb (r .kind) 0) (listingFrom (startOf r) s) badLine
 unfolding listingOf
 record-listed s r e h =
     rw (ne-eqb (length s) 0 (λ z. omega arith), le-ltb (length s) 21 h)
-    (ap (λ (r : Record). cond (eqb (r .kind) 0) (listingFrom (startOf r) s) badLine) e)
+    (ap (λ (r : Command). cond (eqb (r .kind) 0) (listingFrom (startOf r) s) badLine) e)
 
 -- a whole first record, and the bytes behind it
 module _ (first rest : List ℕ) (size : length first ≡ 21) where

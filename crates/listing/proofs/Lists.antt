@@ -6,19 +6,19 @@ use native.Mathlib.Omega.{arith}
 use lib.ListN.{length, length-append}
 use lib.Seq.{sets, length-sets}
 use Rattle.codec.proofs.Stores.{sets-then}
+use Rattle.calls.specs.declared.Command.{Command}
 use Rattle.meter.specs.declared.Meter.{Meter}
 use Rattle.meter.specs.declared.Outcome.{Outcome}
 use Rattle.replay.specs.declared.ListingLine.{ListingLine}
-use Rattle.replay.specs.declared.Record.{Record}
 use Rattle.meter.specs.Machine.{recordAfter}
 use Rattle.replay.specs.Replay.{callsIn, nextOf, meterAfter}
 use Rattle.replay.proofs.Runs.{meter-next}
 use Rattle.replay.specs.Listing.{lineOf}
 use Rattle.listing.specs.Lines.{shown, linesFrom}
 
-module _ (text₀ : List ℕ) (position : ℕ) (m₀ : Meter) (all : List Record) where
+module _ (text₀ : List ℕ) (position : ℕ) (m₀ : Meter) (all : List Command) where
   -- the lines of i records are put: with those of the rest, the text will be as with all of them
-  pub record Listing (text : List ℕ) (m : Meter) (len i : ℕ) (rest : List Record) : Type 0 where
+  pub record Listing (text : List ℕ) (m : Meter) (len i : ℕ) (rest : List Command) : Type 0 where
     pub size : length text ≡ length text₀
     pub room : len ≤ 40 * i
     pub meter : meterAfter m rest ≡ meterAfter m₀ all
@@ -30,7 +30,7 @@ module _ (text₀ : List ℕ) (position : ℕ) (m₀ : Meter) (all : List Record
       let first : position + 0 ≡ position = omega arith in
       record { size = refl; room = omega arith; meter = refl; count = rw first (omega arith); bytes = rw first }
 
-  pub one-listed : {text : List ℕ} {m : Meter} {len i : ℕ} {r : Record} {rest : List Record} → Listing text m len i (r ∷ rest)
+  pub one-listed : {text : List ℕ} {m : Meter} {len i : ℕ} {r : Command} {rest : List Command} → Listing text m len i (r ∷ rest)
       → {o : Outcome} {line : ListingLine} {text′ : List ℕ} {len′ : ℕ} → o ≡ nextOf m r → line ≡ lineOf (position + i) o
       → (len′ ≡ len + length (shown line)) × (text′ ≡ sets text len (shown line)) → len′ ≤ len + 40
       → Listing text′ (o .meter) len′ (i + 1) rest

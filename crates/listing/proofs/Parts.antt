@@ -8,9 +8,9 @@ use lib.ListN.{length, length-append, List·getD-append}
 use lib.Seq.{getD-append-add}
 use Rattle.codec.specs.Format.{Format, numAt, decs}
 use Rattle.codec.proofs.Stores.{decs-append}
+use Rattle.calls.specs.declared.Command.{Command}
 use Rattle.meter.specs.declared.Meter.{Meter}
 use Rattle.meter.specs.Machine.{recordAfter}
-use Rattle.replay.specs.declared.Record.{Record}
 use Rattle.replay.specs.Input.{recordFormat}
 use Rattle.replay.specs.Replay.{firstIn, laterIn, recordsFrom, callsIn, nextOf, meterAfter}
 use Rattle.replay.proofs.Records.{record-numbers}
@@ -93,7 +93,7 @@ no-record : (m : Meter) → meterAfter m [] ≡ m
 unfolding recordAfter callsIn
 no-record m = refl
 
-pub lines-cat : (position : ℕ) (m : Meter) (rs ts : List Record)
+pub lines-cat : (position : ℕ) (m : Meter) (rs ts : List Command)
     → linesFrom position m (rs ++ ts) ≡ linesFrom position m rs ++ linesFrom (position + length rs) (meterAfter m rs) ts
 unfolding linesFrom
 lines-cat position m [] ts = rw (add-zero, no-record m)

@@ -12,10 +12,10 @@ use Rattle.base.proofs.Bools.{by-test}
 use Rattle.io.specs.Counts.{Counts}
 use Rattle.io.proofs.Counting.{counts}
 use Rattle.codec.proofs.Stores.{sets-then}
+use Rattle.calls.specs.declared.Command.{Command}
 use Rattle.calls.specs.Calls.{answerNumber}
 use Rattle.meter.specs.declared.Meter.{Meter}
 use Rattle.meter.specs.declared.Outcome.{Outcome}
-use Rattle.replay.specs.declared.Record.{Record}
 use Rattle.replay.specs.declared.ListingLine.{ListingLine}
 use Rattle.replay.specs.Replay.{firstIn, recordsFrom, startOf, meterAfter}
 use Rattle.replay.specs.Listing.{lineOf}
@@ -32,7 +32,7 @@ cut-length n = by-test (eqb (n % 21) 0) (λ e. rw e (omega arith)) (λ e. rw e (
 
 -- ---- the first record
 
-module _ (s : List ℕ) {r : Record} (read : r ≡ firstIn s) where
+module _ (s : List ℕ) {r : Command} (read : r ≡ firstIn s) where
   pub first-progress : {o : Outcome} {n : ℕ} → o ≡ startOf r → n ≡ answerNumber (o .answer)
       → _≡_ {A = Progress}
       (record { meter = o .meter; position = afterFirst s .position; more = leb 21 (length s) && (eqb (r .kind) 0 && eqb n 0) })
@@ -40,7 +40,7 @@ module _ (s : List ℕ) {r : Record} (read : r ≡ firstIn s) where
   first-progress made numbered = rw (numbered, made, read)
 
   kind-read : r .kind ≡ firstIn s .kind
-  kind-read = ap (λ (r : Record). r .kind) read
+  kind-read = ap (λ (r : Command). r .kind) read
 
   pub bad-first : 21 ≤ length s → (r .kind ≡ 0 → ⊥) → badLine ≡ firstText s
   unfolding firstText

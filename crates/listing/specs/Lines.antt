@@ -4,9 +4,9 @@ use mathlib.Core.List.{List, [], _∷_, _++_}
 use Prim.Native.Nat.{ℕ, _+_}
 use lib.ListN.{length, drop}
 use lib.Seq.{sets}
+use Rattle.calls.specs.declared.Command.{Command}
 use Rattle.meter.specs.declared.Meter.{Meter}
 use Rattle.replay.specs.declared.ListingLine.{ListingLine}
-use Rattle.replay.specs.declared.Record.{Record}
 use Rattle.replay.specs.Replay.{recordsFrom, nextOf}
 use Rattle.replay.specs.Listing.{lineOf}
 
@@ -23,7 +23,7 @@ abbrev pub shown : ListingLine → List ℕ
 shown line = drop (line .start) (line .bytes)
 
 -- 'Per record a line': those of records on a meter, the first of them at a position
-unfoldable pub linesFrom : ℕ → Meter → List Record → List ℕ
+unfoldable pub linesFrom : ℕ → Meter → List Command → List ℕ
 linesFrom position m [] = []
 linesFrom position m (r ∷ rs) =
     shown (lineOf position (nextOf m r)) ++ linesFrom (position + 1) (nextOf m r .meter) rs

@@ -10,21 +10,21 @@ use lib.ListN.{length, length-set}
 use lib.Seq.{set-set}
 use Rattle.calls.specs.declared.Answer.{Answer}
 use Rattle.calls.specs.declared.Answer.the-variants.{Accepted, Refused}
+use Rattle.calls.specs.declared.Command.{Command}
 use Rattle.calls.specs.Calls.{answerNumber}
 use Rattle.meter.specs.declared.Meter.{Meter}
 use Rattle.meter.specs.declared.Outcome.{Outcome}
 use Rattle.page.specs.Layout.{writeAnswer, written, readOf}
-use Rattle.replay.specs.declared.Record.{Record}
 use Rattle.replay.specs.Replay.{recordsFrom, meterAfter}
 use Rattle.measure.specs.Rounds.{roundsFrom, callsAnswer, callsPage, passing, inRound, writtenRounds, pageInRound, pageAfterRounds}
 
-pub next-round : (n : ℕ) (m : Meter) (rs : List Record) → 0 < n → roundsFrom (n - 1) (meterAfter m rs) rs ≡ roundsFrom n m rs
+pub next-round : (n : ℕ) (m : Meter) (rs : List Command) → 0 < n → roundsFrom (n - 1) (meterAfter m rs) rs ≡ roundsFrom n m rs
 unfolding roundsFrom
 next-round n m rs h =
     let one : n ≡ suc (n - 1) = omega arith in
     sym (ap (λ (k : ℕ). roundsFrom k m rs) one)
 
-pub no-round : (n : ℕ) (m : Meter) (rs : List Record) → n ≡ 0 → roundsFrom n m rs ≡ m
+pub no-round : (n : ℕ) (m : Meter) (rs : List Command) → n ≡ 0 → roundsFrom n m rs ≡ m
 unfolding roundsFrom
 no-round n m rs e = rw e
 

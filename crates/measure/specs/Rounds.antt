@@ -7,17 +7,17 @@ use lib.ListN.{length, set}
 use Rattle.events.specs.Table.{builtIn}
 use Rattle.calls.specs.declared.Answer.{Answer}
 use Rattle.calls.specs.declared.Answer.the-variants.{Accepted, Refused}
+use Rattle.calls.specs.declared.Command.{Command}
 use Rattle.calls.specs.Calls.{answerNumber}
 use Rattle.meter.specs.declared.Meter.{Meter}
 use Rattle.meter.specs.Sound.{soundMeter}
 use Rattle.page.specs.Layout.{writeAnswer, written, readOf}
-use Rattle.replay.specs.declared.Record.{Record}
 use Rattle.replay.specs.Replay.{recordsFrom, meterAfter}
 
 -- ---- rounds of calls
 
 -- the meter after n rounds of all the records
-unfoldable pub roundsFrom : ℕ → Meter → List Record → Meter
+unfoldable pub roundsFrom : ℕ → Meter → List Command → Meter
 roundsFrom zero m rs = m
 roundsFrom (suc n) m rs = roundsFrom n (meterAfter m rs) rs
 

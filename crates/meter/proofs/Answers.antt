@@ -7,6 +7,7 @@ use lib.ListN.{length}
 use Rattle.events.specs.Table.{EventRow}
 use Rattle.calls.specs.declared.Call.{Call}
 use Rattle.calls.specs.declared.Answer.the-variants.{Refused}
+use Rattle.calls.specs.declared.Command.{Command}
 use Rattle.calls.specs.declared.Parsed.{Parsed}
 use Rattle.calls.specs.declared.Parsed.the-variants.{Ok, NoKind}
 use Rattle.calls.specs.Calls.{callOf}
@@ -14,7 +15,7 @@ use Rattle.history.specs.Effects.{Reading, refused, accepted, reading}
 use Rattle.history.specs.OnePhase.{asCall}
 use Rattle.machine.specs.Values.{State}
 use Rattle.machine.specs.Sound.{soundState}
-use Rattle.machine.specs.Machine.{Result, refusing, making, result, stateAfter}
+use Rattle.machine.specs.Machine.{Result, refusing, making, result}
 use Rattle.machine.proofs.Effects.{readResult}
 use Rattle.machine.proofs.Answers.{either, by-reading, afterResult}
 use Rattle.steps.specs.Scalars.{valuesOf}
@@ -52,9 +53,9 @@ module _ (rows : List EventRow) (m : Meter) where
   performed-same (Ok c) n h = refused-same c n h
   performed-same NoKind n h = refl
 
-  pub commanded-same : (k n1 n2 n3 n4 n5 n : ℕ) → commanded rows m k n1 n2 n3 n4 n5 .answer ≡ Refused n → commanded rows m k n1 n2 n3 n4 n5 .meter ≡ m
+  pub commanded-same : (c : Command) (n : ℕ) → commanded rows m c .answer ≡ Refused n → commanded rows m c .meter ≡ m
   unfolding commanded
-  commanded-same k n1 n2 n3 n4 n5 = performed-same (callOf k n1 n2 n3 n4 n5)
+  commanded-same c = performed-same (callOf c)
 
 -- ---- the machine on a laid-out record
 pub applied-state : (rows : List EventRow) (v : State) → length (v .values .limiters) ≡ 1 → soundState rows v ≡ true → (c : Call)

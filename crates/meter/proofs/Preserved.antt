@@ -1,6 +1,6 @@
 -- Every call keeps a sound record sound, and the fresh meter is sound.
 use mathlib.Core.Path.{_≡_, refl, _∙_}
-use mathlib.Core.Bool.{true, _&&_}
+use mathlib.Core.Bool.{true}
 use mathlib.Core.List.{List, [], _∷_, _++_}
 use native.Mathlib.Omega.{arith}
 use lib.ListN.{length}
@@ -16,13 +16,12 @@ use Rattle.logs.proofs.Kept.{length-changed, changed-short}
 use Rattle.calls.specs.declared.Call.{Call}
 use Rattle.calls.specs.Calls.{InRange, AllInRange}
 use Rattle.history.specs.OnePhase.{Fresh, asFresh, asCall}
-use Rattle.machine.specs.Values.{State}
 use Rattle.machine.specs.Sound.{soundState}
-use Rattle.machine.specs.Machine.{Change, Result, refusing, making, stateAfter, result}
+use Rattle.machine.specs.Machine.{Change, Result, refusing, making, stateAfter}
 use Rattle.machine.proofs.Answers.{either, afterResult}
 use Rattle.machine.proofs.Preserved.{kept-sound, fresh-sound}
 use Rattle.machine.proofs.Number.{number-kept}
-use Rattle.steps.specs.Scalars.{valuesOf, soundScalars}
+use Rattle.steps.specs.Scalars.{soundScalars}
 use Rattle.steps.specs.Step.{resultOf}
 use Rattle.meter.specs.declared.Meter.{Meter}
 use Rattle.meter.specs.declared.Outcome.{Outcome}

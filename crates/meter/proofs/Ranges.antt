@@ -1,5 +1,4 @@
 -- Settings and calls in their ranges, as those of a meter with any number of monitored values.
-use mathlib.Core.Path.{_≡_, refl}
 use mathlib.Core.List.{List, [], _∷_, map, reverse, reverseAux}
 use Rattle.base.specs.Tests.{every}
 use Rattle.calls.specs.declared.Call.{Call}

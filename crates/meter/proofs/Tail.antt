@@ -19,6 +19,7 @@ use Rattle.logs.proofs.Inverse.{lists-sound}
 use Rattle.logs.proofs.Kept.{emptied-sound, lists-short, lists-length}
 use Rattle.calls.specs.declared.Call.{Call}
 use Rattle.calls.specs.declared.Answer.the-variants.{Refused}
+use Rattle.calls.specs.declared.Command.{Command}
 use Rattle.calls.specs.declared.Parsed.{Parsed}
 use Rattle.calls.specs.declared.Parsed.the-variants.{Ok, NoKind}
 use Rattle.calls.specs.Calls.{callOf}
@@ -126,10 +127,9 @@ module _ (rows : List EventRow) (m : Meter) where
   performed-in-parts (Ok c) z e = sound-in-parts c z e
   performed-in-parts NoKind z e = refl
 
-  pub command-in-parts : (k n1 n2 n3 n4 n5 : ℕ) → Sized (m .logs) → soundMeter rows m ≡ true
-      → commandedInParts rows m k n1 n2 n3 n4 n5 ≡ commanded rows m k n1 n2 n3 n4 n5
+  pub command-in-parts : (c : Command) → Sized (m .logs) → soundMeter rows m ≡ true → commandedInParts rows m c ≡ commanded rows m c
   unfolding commandedInParts commanded
-  command-in-parts k n1 n2 n3 n4 n5 z e = performed-in-parts (callOf k n1 n2 n3 n4 n5) z e
+  command-in-parts c = performed-in-parts (callOf c)
 
 -- ---- the parts of the two arrays, as long as the count says
 pub lines-room : (s : Step) (t : Scalars) (r : Result) → s ≡ stepOf t r → (s .count ≤ length (s .clocks)) × (s .count ≤ length (s .codes))

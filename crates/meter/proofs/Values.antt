@@ -1,6 +1,6 @@
 -- Records and values: of what is sound, each is read off the other.
 use mathlib.Core.Path.{_≡_, refl, _∙_}
-use mathlib.Core.Bool.{true, _&&_, and-true}
+use mathlib.Core.Bool.{true, and-true}
 use mathlib.Core.List.{List, [], _∷_, map}
 use Prim.Native.Nat.{ℕ, _*_}
 use native.Mathlib.Omega.{arith}
@@ -16,7 +16,6 @@ use Rattle.logs.proofs.Read.{laid-lists}
 use Rattle.logs.proofs.Inverse.{lists-laid, laid-sound, lists-sound}
 use Rattle.logs.proofs.Kept.{lists-length, lists-short}
 use Rattle.base.specs.Tests.{every}
-use Rattle.control.specs.Control.{soundControl}
 use Rattle.limiter.specs.declared.Limiter.{Limiter}
 use Rattle.limiter.specs.Limiter.{soundLimiter}
 use Rattle.machine.specs.Values.{State}

@@ -10,6 +10,7 @@ use Rattle.logs.specs.Layout.{Sized}
 use Rattle.calls.specs.declared.Call.{Call}
 use Rattle.calls.specs.declared.Answer.{Answer}
 use Rattle.calls.specs.declared.Answer.the-variants.{Accepted, Refused}
+use Rattle.calls.specs.declared.Command.{Command}
 use Rattle.calls.specs.Calls.{InRange, AllInRange}
 use Rattle.history.specs.Effects.{Reading, refused, accepted, reading}
 use Rattle.history.specs.OnePhase.{Fresh, asCall, account}
@@ -41,16 +42,16 @@ pub record LawsOf (rows : List EventRow) : Type 0 where
   pub in-parts : (m : Meter) (c : Call) → Sized (m .logs) → appliedInParts rows m c ≡ applied rows m c
   -- and where the record is sound, so is one that does not test it, and a command
   pub sound-in-parts : (m : Meter) (c : Call) → Sized (m .logs) → soundMeter rows m ≡ true → carriedOutInParts rows m c ≡ applied rows m c
-  pub command-in-parts : (m : Meter) (k n1 n2 n3 n4 n5 : ℕ) → Sized (m .logs) → soundMeter rows m ≡ true
-      → commandedInParts rows m k n1 n2 n3 n4 n5 ≡ commanded rows m k n1 n2 n3 n4 n5
+  pub command-in-parts : (m : Meter) (c : Command) → Sized (m .logs) → soundMeter rows m ≡ true
+      → commandedInParts rows m c ≡ commanded rows m c
   -- for a sound record the answer is the one that the account's rule gives: each number comes under its condition only
   pub answers : (m : Meter) (c : Call) → soundMeter rows m ≡ true
       → applied rows m c .answer ≡ answerOf (reading rows (m .control .mode) (asCall c))
   -- on any refusal the record is the one that came in, of a call and of a command
   pub refused-same : (m : Meter) (c : Call) (n : ℕ) → applied rows m c .answer ≡ Refused n
       → applied rows m c .meter ≡ m
-  pub command-refused-same : (m : Meter) (k n1 n2 n3 n4 n5 n : ℕ)
-      → commanded rows m k n1 n2 n3 n4 n5 .answer ≡ Refused n → commanded rows m k n1 n2 n3 n4 n5 .meter ≡ m
+  pub command-refused-same : (m : Meter) (c : Command) (n : ℕ) → commanded rows m c .answer ≡ Refused n
+      → commanded rows m c .meter ≡ m
   -- after any list of calls from accepted fresh settings, refused calls among them, the record is sound: 12 never comes
   pub reached-sound : (f : Fresh) (calls : List Call) → Settings f → AllInRange calls
       → soundMeter rows (recordAfter rows (recordOf (freshState f)) calls) ≡ true

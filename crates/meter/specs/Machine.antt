@@ -1,10 +1,10 @@
 -- The machine on the meter's record: the calls of document 01's meter, one behind the other.
-use Prim.Native.Nat.{ℕ}
 use mathlib.Core.Bool.{cond}
 use mathlib.Core.List.{List, [], _∷_}
 use Rattle.events.specs.Table.{EventRow}
 use Rattle.calls.specs.declared.Call.{Call}
 use Rattle.calls.specs.declared.Answer.the-variants.{Accepted, Refused}
+use Rattle.calls.specs.declared.Command.{Command}
 use Rattle.calls.specs.declared.Parsed.{Parsed}
 use Rattle.calls.specs.declared.Parsed.the-variants.{Ok, NoKind}
 use Rattle.calls.specs.Calls.{callOf}
@@ -29,9 +29,9 @@ abbrev pub performed : List EventRow → Meter → Parsed → Outcome
 performed rows m (Ok c) = applied rows m c
 performed rows m NoKind = record { meter = m; answer = Refused 13 }
 
--- a command of a kind and five numbers
-unfoldable pub commanded : List EventRow → Meter → ℕ → ℕ → ℕ → ℕ → ℕ → ℕ → Outcome
-commanded rows m k n1 n2 n3 n4 n5 = performed rows m (callOf k n1 n2 n3 n4 n5)
+-- a command on a record
+unfoldable pub commanded : List EventRow → Meter → Command → Outcome
+commanded rows m c = performed rows m (callOf c)
 
 -- 'Its first call gets the fresh meter, each next one the record that the call before handed back, accepted or refused': the record after calls, in
 -- their order

@@ -7,6 +7,7 @@ use Rattle.logs.specs.declared.Logs.{Logs}
 use Rattle.logs.specs.Layout.{lineClock, lineCode, extendedArrays, zeroedArrays}
 use Rattle.calls.specs.declared.Call.{Call}
 use Rattle.calls.specs.declared.Answer.the-variants.{Accepted, Refused}
+use Rattle.calls.specs.declared.Command.{Command}
 use Rattle.calls.specs.declared.Parsed.{Parsed}
 use Rattle.calls.specs.declared.Parsed.the-variants.{Ok, NoKind}
 use Rattle.calls.specs.Calls.{callOf}
@@ -47,6 +48,6 @@ abbrev pub performedInParts : List EventRow → Meter → Parsed → Outcome
 performedInParts rows m (Ok c) = carriedOutInParts rows m c
 performedInParts rows m NoKind = record { meter = m; answer = Refused 13 }
 
--- a command of a kind and five numbers carried out on a record in parts, whether it is sound or not
-unfoldable pub commandedInParts : List EventRow → Meter → ℕ → ℕ → ℕ → ℕ → ℕ → ℕ → Outcome
-commandedInParts rows m k n1 n2 n3 n4 n5 = performedInParts rows m (callOf k n1 n2 n3 n4 n5)
+-- a command carried out on a record in parts, whether it is sound or not
+unfoldable pub commandedInParts : List EventRow → Meter → Command → Outcome
+commandedInParts rows m c = performedInParts rows m (callOf c)

@@ -4,7 +4,7 @@ use mathlib.Core.List.{List}
 use Rattle.logs.specs.Layout.{arrays, laid, listsOf}
 use Rattle.machine.specs.Values.{State}
 use Rattle.steps.specs.declared.Scalars.{Scalars}
-use Rattle.steps.specs.Scalars.{valuesOf, scalarsFrom, firstLimiter}
+use Rattle.steps.specs.Scalars.{valuesOf, firstLimiter}
 use Rattle.meter.specs.declared.Meter.{Meter}
 
 -- the record without its logs

@@ -1,19 +1,19 @@
 -- The numbers of an account are values of their types: those that are held at 32 bits, and those that calls bring.
 use mathlib.Core.Path.{_≡_, refl}
-use mathlib.Core.Bool.{Bool, true, false, not, _&&_, cond}
+use mathlib.Core.Bool.{true}
 use mathlib.Core.List.{List, [], _∷_, _++_, map, reverse}
 use Prim.Native.Nat.{ℕ, zero, suc, _-_, _<_, _^_}
 use native.Mathlib.Omega.{arith}
-use lib.Dec.{eqb, leb, ltb}
+use lib.Dec.{leb, ltb}
 use lib.ListN.{length, getD, replicate}
-use borrow.Author.Tests.{leb-true, ltb-true, le-leb}
+use borrow.Author.Tests.{leb-true, ltb-true}
 use Rattle.base.specs.Tests.{every}
 use Rattle.base.proofs.Bools.{and-left, and-right}
 use Rattle.base.proofs.Bits.{number-lt}
-use Rattle.base.proofs.Every.{every-first, every-rest, every-append, every-drop}
+use Rattle.base.proofs.Every.{every-first, every-rest}
 use Rattle.codec.proofs.Numbers.{pow-pos}
-use Rattle.events.specs.Line.{Line, line, isLog, newest}
-use Rattle.events.specs.Table.{EventRow, position, lawful, builtIn}
+use Rattle.events.specs.Line.{Line}
+use Rattle.events.specs.Table.{builtIn}
 use Rattle.events.proofs.Rule.{built-in-lawful}
 use Rattle.logs.specs.Layout.{lineClock as lineClock, lineCode, padded, flat, laid}
 use Rattle.logs.proofs.Places.{Short, none as noLog, more as moreLogs}

@@ -6,6 +6,7 @@ use Prim.Native.Nat.{ℕ, _^_, _<_}
 use Rattle.calls.specs.declared.Answer.{Answer}
 use Rattle.calls.specs.declared.Answer.the-variants.{Accepted, Refused}
 use Rattle.calls.specs.declared.Call.{Call}
+use Rattle.calls.specs.declared.Command.{Command}
 use Rattle.calls.specs.declared.Parsed.{Parsed}
 use Rattle.calls.specs.declared.Parsed.the-variants.{Ok, NoKind}
 use Rattle.calls.specs.Calls.{answerNumber, callOf, InRange}
@@ -45,9 +46,8 @@ module _ (page : List ℕ) (p : Parsed) where
           rw (names, accepted) (kept .1 ∙ ap (λ (o : Outcome). keptPage o page) outcome),
         )
 
--- the numbers of a call that a kind and numbers of 32 bits name are values of their types
-pub named-range : (p : Parsed) (c : Call) (kind n1 n2 n3 n4 n5 : ℕ) → p ≡ callOf kind n1 n2 n3 n4 n5 → p ≡ Ok c
-    → n1 < 256 ^ 4 → n2 < 256 ^ 4 → n3 < 256 ^ 4 → InRange c
-named-range p c kind n1 n2 n3 n4 n5 read names h1 h2 h3 =
-    let range : ParsedInRange p = rw read (call-range kind n1 n2 n3 n4 n5 h1 h2 h3) in
+-- the numbers of a call that a command of numbers of 32 bits names are values of their types
+pub named-range : (p : Parsed) (c : Call) (r : Command) → p ≡ callOf r → p ≡ Ok c → r .n1 < 256 ^ 4 → r .n2 < 256 ^ 4 → r .n3 < 256 ^ 4 → InRange c
+named-range p c r read names h1 h2 h3 =
+    let range : ParsedInRange p = rw read (call-range r h1 h2 h3) in
     rw names at range

@@ -2,7 +2,7 @@
 -- record, and after a list of calls that of the account.
 use mathlib.Core.Path.{_≡_, refl, sym, ap, _∙_}
 use mathlib.Core.Bool.{Bool, true, false, _&&_, cond}
-use mathlib.Core.List.{List, [], _∷_, _++_, append-nil, reverse}
+use mathlib.Core.List.{List, [], _∷_, _++_, append-nil}
 use Prim.Native.Nat.{ℕ}
 use native.Mathlib.Omega.{arith}
 use lib.Dec.{eqb, leb}
@@ -15,6 +15,7 @@ use Rattle.logs.specs.Layout.{Sized}
 use Rattle.calls.specs.declared.Call.{Call}
 use Rattle.calls.specs.declared.Answer.{Answer}
 use Rattle.calls.specs.declared.Answer.the-variants.{Accepted, Refused}
+use Rattle.calls.specs.declared.Command.{Command}
 use Rattle.calls.specs.declared.Parsed.{Parsed}
 use Rattle.calls.specs.declared.Parsed.the-variants.{Ok, NoKind}
 use Rattle.calls.specs.Calls.{answerNumber, callOf, InRange, AllInRange}
@@ -35,11 +36,10 @@ use Rattle.page.specs.AccountPage.{accountPage}
 use Rattle.page.proofs.RoundTrip as roundtrip
 use Rattle.page.proofs.Ranges.{account-typed}
 use Rattle.page.proofs.Printed.{list-written}
-use Rattle.replay.specs.declared.Record.{Record}
-use Rattle.replay.specs.Replay.{parsedIn, withCall, callsIn, nextOf, meterAfter}
-use Rattle.pillar.specs.Interface.{numberOr, bytesOr, keptNumber, keptPage, outcomeOn, performedNumber, performedPage, callNumber, callPage}
+use Rattle.replay.specs.Replay.{withCall, callsIn, nextOf, meterAfter}
+use Rattle.pillar.specs.Interface.{numberOr, bytesOr, keptNumber, keptPage, outcomeOn, performedNumber, performedPage, freshPage, callNumber, callPage}
 use Rattle.pillar.proofs.Kept.{kept-refused}
-use Rattle.pillar.specs.Laws.{freshPageOf, callNumberOf, callPageOf, callPages, Laws}
+use Rattle.pillar.specs.Laws.{callPages, Laws}
 
 -- ---- a sound record goes to the writer
 
@@ -77,9 +77,9 @@ kept-same o page some = go (o .answer) (writeAnswer (o .meter) page) refl some
     go Accepted (Refused n) e some = roundtrip.laws .refused-same (o .meter) page n e
     go (Refused n) w e some = refl
 
-call-same : (page : List ℕ) (r : Record) → (callNumberOf page r ≡ 0 → ⊥) → callPageOf page r ≡ page
+call-same : (page : List ℕ) (r : Command) → (callNumber page r ≡ 0 → ⊥) → callPage page r ≡ page
 unfolding callNumber callPage
-call-same page r some = go (parsedIn r) some
+call-same page r some = go (callOf r) some
   where
     read : (o : Outcome) (a : Answer) → (numberOr a (keptNumber o page) ≡ 0 → ⊥) → bytesOr a (keptPage o page) page ≡ page
     read o Accepted some = kept-same o page some
@@ -91,18 +91,18 @@ call-same page r some = go (parsedIn r) some
 
 -- ---- the kind comes first
 
-module _ (page : List ℕ) (kind n1 n2 n3 n4 n5 : ℕ) where
-  no-kind : within 1 15 kind ≡ false → callNumber page kind n1 n2 n3 n4 n5 ≡ 13
+module _ (page : List ℕ) (r : Command) where
+  no-kind : within 1 15 (r .kind) ≡ false → callNumber page r ≡ 13
   unfolding callNumber
-  no-kind out = rw (call-laws .no-kind kind _ _ _ _ _ out)
+  no-kind out = rw (call-laws .no-kind r out)
 
-  unread : (n : ℕ) → within 1 15 kind ≡ true → readOf page .answer ≡ Refused n → callNumber page kind n1 n2 n3 n4 n5 ≡ n
+  unread : (n : ℕ) → within 1 15 (r .kind) ≡ true → readOf page .answer ≡ Refused n → callNumber page r ≡ n
   unfolding callNumber
   unread n in-kinds e = go _ refl
     where
-      go : (p : Parsed) → callOf kind n1 n2 n3 n4 n5 ≡ p → performedNumber page p ≡ n
+      go : (p : Parsed) → callOf r ≡ p → performedNumber page p ≡ n
       go (Ok c) names = rw e
-      go NoKind names = absurd (call-laws .some-kind kind n1 n2 n3 n4 n5 in-kinds names)
+      go NoKind names = absurd (call-laws .some-kind r in-kinds names)
 
 -- ---- a call on a page that is read
 
@@ -118,32 +118,32 @@ performed-sound : (m : Meter) (p : Parsed) → AllInRange (withCall p []) → so
 performed-sound m (Ok c) i sound sized = meter.built-in .kept-sound m c sized (i .0) sound
 performed-sound m NoKind i sound sized = sound
 
-module _ {page : List ℕ} {m : Meter} (k : Read page m) (r : Record) (i : AllInRange (withCall (parsedIn r) [])) where
+module _ {page : List ℕ} {m : Meter} (k : Read page m) (r : Command) (i : AllInRange (withCall (callOf r) [])) where
   next-sound : soundMeter builtIn (nextOf m r .meter) ≡ true
   unfolding commanded
-  next-sound = performed-sound m (parsedIn r) i (k .sound) (k .sized)
+  next-sound = performed-sound m (callOf r) i (k .sound) (k .sized)
 
   whole : length page ≡ size
   whole = ap length (sym (k .back)) ∙ roundtrip.page-length m
 
   -- the reader is through: what is left is the machine's outcome
-  number-read : callNumberOf page r ≡ keptNumber (nextOf m r) page
+  number-read : callNumber page r ≡ keptNumber (nextOf m r) page
   unfolding callNumber commanded keptNumber
-  number-read = go (parsedIn r)
+  number-read = go (callOf r)
     where
       go : (p : Parsed) → performedNumber page p ≡ keptNumber (performed builtIn m p) page
       go (Ok c) = ap (λ (o : Outcome). numberOr (o .answer) (keptNumber (applied builtIn (o .meter) c) page)) (k .reads)
       go NoKind = refl
 
-  page-read : callPageOf page r ≡ keptPage (nextOf m r) page
+  page-read : callPage page r ≡ keptPage (nextOf m r) page
   unfolding callPage commanded keptPage
-  page-read = go (parsedIn r)
+  page-read = go (callOf r)
     where
       go : (p : Parsed) → performedPage page p ≡ keptPage (performed builtIn m p) page
       go (Ok c) = ap (λ (o : Outcome). bytesOr (o .answer) (keptPage (applied builtIn (o .meter) c) page) page) (k .reads)
       go NoKind = refl
 
-  answer-on : callNumberOf page r ≡ answerNumber (nextOf m r .answer)
+  answer-on : callNumber page r ≡ answerNumber (nextOf m r .answer)
   answer-on =
       number-read
       ∙ kept-answer (nextOf m r) page (λ e. next-sound)
@@ -153,7 +153,7 @@ module _ {page : List ℕ} {m : Meter} (k : Read page m) (r : Record) (i : AllIn
       go Accepted = refl
       go (Refused n) = refl
 
-  page-on : callPageOf page r ≡ pageOf (nextOf m r .meter)
+  page-on : callPage page r ≡ pageOf (nextOf m r .meter)
   page-on = page-read ∙ go (nextOf m r .answer) refl
     where
       o : Outcome
@@ -161,7 +161,7 @@ module _ {page : List ℕ} {m : Meter} (k : Read page m) (r : Record) (i : AllIn
 
       go : (a : Answer) → o .answer ≡ a → keptPage o page ≡ pageOf (o .meter)
       go Accepted e = kept-written o page whole e next-sound
-      go (Refused n) e = sym (kept-refused o page n e .1) ∙ sym (k .back) ∙ ap pageOf (sym (meter.built-in .command-refused-same m (r .kind) (r .n1) (r .n2) (r .n3) (r .n4) (r .n5) n e))
+      go (Refused n) e = sym (kept-refused o page n e .1) ∙ sym (k .back) ∙ ap pageOf (sym (meter.built-in .command-refused-same m r n e))
 
 -- an accepted page: the record is the one in its bytes
 accepted-in : (s : List ℕ) → readOf s .answer ≡ Accepted → (readOf s .meter ≡ meterIn s) × (layout .valid s start ≡ true)
@@ -227,13 +227,13 @@ module _ (f : Fresh) (t : Settings f) where
       record { reads = roundtrip.read-page (reached calls) typed sound; back = refl; sound = sound; sized = typed .logs }
 
   -- the pages of records behind some calls
-  pages-from : (rs : List Record) (calls : List Call) → AllInRange (callsIn rs) → AllInRange calls
+  pages-from : (rs : List Command) (calls : List Call) → AllInRange (callsIn rs) → AllInRange calls
       → callPages (pageOf (reached calls)) rs ≡ pageOf (meterAfter (reached calls) rs)
   unfolding callPages callsIn commanded recordAfter
   pages-from [] calls i k = refl
   pages-from (r ∷ rs) calls i k =
-      ap (λ (page : List ℕ). callPages page rs) (page-on (from-record calls k) r (first-range (parsedIn r) (callsIn rs) i))
-      ∙ go (parsedIn r) i (pages-from rs)
+      ap (λ (page : List ℕ). callPages page rs) (page-on (from-record calls k) r (first-range (callOf r) (callsIn rs) i))
+      ∙ go (callOf r) i (pages-from rs)
     where
       go : (p : Parsed) → AllInRange (withCall p (callsIn rs))
           → ((calls : List Call) → AllInRange (callsIn rs) → AllInRange calls → callPages (pageOf (reached calls)) rs ≡ pageOf (meterAfter (reached calls) rs))
@@ -250,12 +250,12 @@ fresh-sound f range e =
     ap (soundMeter builtIn) (fresh-laws .accepted-meter f e)
     ∙ meter.built-in .reached-sound f [] (fresh-laws .accepted-settings f range e) tt
 
-account-page : (page : List ℕ) (f : Fresh) (rs : List Record) → length page ≡ size → freshOf f .answer ≡ Accepted → SettingsInRange f
-    → AllInRange (callsIn rs) → callPages (freshPageOf page f) rs ≡ accountPage (account builtIn f (callsIn rs))
+account-page : (page : List ℕ) (f : Fresh) (rs : List Command) → length page ≡ size → freshOf f .answer ≡ Accepted → SettingsInRange f
+    → AllInRange (callsIn rs) → callPages (freshPage page f) rs ≡ accountPage (account builtIn f (callsIn rs))
 unfolding recordAfter
 account-page page f rs whole e range i =
     let t = fresh-laws .accepted-settings f range e in
-    let first : freshPageOf page f ≡ pageOf (recordOf (freshState f)) =
+    let first : freshPage page f ≡ pageOf (recordOf (freshState f)) =
     kept-written (freshOf f) page whole e (fresh-sound f range e) ∙ ap pageOf (fresh-laws .accepted-meter f e) in
     ap (λ (page : List ℕ). callPages page rs) first
     ∙ pages-from f t rs [] i tt
@@ -267,8 +267,8 @@ unfolding callsIn
 laws =
     record {
       fresh-answer = λ page f range. kept-answer (freshOf f) page (fresh-sound f range);
-      call-no-kind = λ page r. no-kind page (r .kind) (r .n1) (r .n2) (r .n3) (r .n4) (r .n5);
-      call-unread = λ page r. unread page (r .kind) (r .n1) (r .n2) (r .n3) (r .n4) (r .n5);
+      call-no-kind = no-kind;
+      call-unread = unread;
       call-answer = λ page r bytes e i. answer-on (from-page page bytes e) r i;
       call-page = λ page r bytes e i. page-on (from-page page bytes e) r i;
       fresh-refused = λ page f. kept-same (freshOf f) page;

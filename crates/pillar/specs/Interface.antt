@@ -2,17 +2,17 @@
 -- with a number for each answer.
 use mathlib.Core.List.{List}
 use Prim.Native.Nat.{ℕ}
-use lib.IntN.{ℤ}
 use Rattle.events.specs.Table.{builtIn}
 use Rattle.calls.specs.declared.Call.{Call}
 use Rattle.calls.specs.declared.Answer.{Answer}
 use Rattle.calls.specs.declared.Answer.the-variants as answer
+use Rattle.calls.specs.declared.Command.{Command}
 use Rattle.calls.specs.declared.Parsed.{Parsed}
 use Rattle.calls.specs.declared.Parsed.the-variants.{Ok, NoKind}
 use Rattle.calls.specs.Calls.{answerNumber, callOf}
+use Rattle.history.specs.OnePhase.{Fresh}
 use Rattle.meter.specs.declared.Outcome.{Outcome}
 use Rattle.meter.specs.Machine.{applied}
-use Rattle.meter.specs.Settings.{settingsOf}
 use Rattle.meter.specs.Fresh.{freshOf}
 use Rattle.page.specs.Layout.{writeAnswer, written, readOf}
 use Rattle.replay.specs.declared.Replayed.{Replayed}
@@ -37,12 +37,12 @@ unfoldable pub keptPage : Outcome → List ℕ → List ℕ
 keptPage o page = bytesOr (o .answer) (written (o .meter) page) page
 
 -- 'Fresh takes mode, threshold, Over, Under, clock': 1, 4, 5, then the writer's
-abbrev pub freshNumber : List ℕ → ℕ → ℤ → ℕ → ℕ → ℕ → ℕ
-freshNumber page mode threshold over under clock = keptNumber (freshOf (settingsOf mode threshold over under clock)) page
+abbrev pub freshNumber : List ℕ → Fresh → ℕ
+freshNumber page f = keptNumber (freshOf f) page
 
 -- the bytes afterwards: the fresh meter's page over the page's length, or as they were on a refusal
-abbrev pub freshPage : List ℕ → ℕ → ℤ → ℕ → ℕ → ℕ → List ℕ
-freshPage page mode threshold over under clock = keptPage (freshOf (settingsOf mode threshold over under clock)) page
+abbrev pub freshPage : List ℕ → Fresh → List ℕ
+freshPage page f = keptPage (freshOf f) page
 
 -- a call on the record of a page
 abbrev pub outcomeOn : List ℕ → Call → Outcome
@@ -58,13 +58,13 @@ abbrev pub performedPage : List ℕ → Parsed → List ℕ
 performedPage page (Ok c) = bytesOr (readOf page .answer) (keptPage (outcomeOn page c) page) page
 performedPage page NoKind = page
 
--- a kind and five numbers as a command on the record of a page
-unfoldable pub callNumber : List ℕ → ℕ → ℕ → ℕ → ℕ → ℕ → ℕ → ℕ
-callNumber page kind n1 n2 n3 n4 n5 = performedNumber page (callOf kind n1 n2 n3 n4 n5)
+-- a command on the record of a page
+unfoldable pub callNumber : List ℕ → Command → ℕ
+callNumber page r = performedNumber page (callOf r)
 
 -- the page that it leaves
-unfoldable pub callPage : List ℕ → ℕ → ℕ → ℕ → ℕ → ℕ → ℕ → List ℕ
-callPage page kind n1 n2 n3 n4 n5 = performedPage page (callOf kind n1 n2 n3 n4 n5)
+unfoldable pub callPage : List ℕ → Command → List ℕ
+callPage page r = performedPage page (callOf r)
 
 -- what became of a list as a number: 0 where its page is written; 'Empty input', `bad` and `short` above every refusal
 abbrev pub replayNumber : Replayed → ℕ

@@ -9,55 +9,39 @@ use Rattle.base.specs.Tests.{within}
 use Rattle.codec.specs.Lawful.{Bytes}
 use Rattle.events.specs.Table.{builtIn}
 use Rattle.calls.specs.declared.Answer.the-variants.{Accepted, Refused}
+use Rattle.calls.specs.declared.Command.{Command}
 use Rattle.calls.specs.Calls.{answerNumber, AllInRange}
 use Rattle.history.specs.OnePhase.{Fresh, account}
 use Rattle.meter.specs.Settings.{SettingsInRange}
 use Rattle.meter.specs.Fresh.{freshOf}
 use Rattle.page.specs.Layout.{size, pageOf, readOf}
 use Rattle.page.specs.AccountPage.{accountPage}
-use Rattle.replay.specs.declared.Record.{Record}
 use Rattle.replay.specs.Replay.{callsIn, nextOf}
 use Rattle.pillar.specs.Interface.{numberOr, freshNumber, freshPage, callNumber, callPage}
 
--- what `pillar_fresh` answers to the settings f
-abbrev pub freshNumberOf : List ℕ → Fresh → ℕ
-freshNumberOf page f = freshNumber page (f .mode) (f .threshold) (f .over) (f .under) (f .clock)
-
--- and the page that it leaves
-abbrev pub freshPageOf : List ℕ → Fresh → List ℕ
-freshPageOf page f = freshPage page (f .mode) (f .threshold) (f .over) (f .under) (f .clock)
-
--- what `pillar_call` answers to the kind and the numbers of r
-abbrev pub callNumberOf : List ℕ → Record → ℕ
-callNumberOf page r = callNumber page (r .kind) (r .n1) (r .n2) (r .n3) (r .n4) (r .n5)
-
--- and the page that it leaves
-abbrev pub callPageOf : List ℕ → Record → List ℕ
-callPageOf page r = callPage page (r .kind) (r .n1) (r .n2) (r .n3) (r .n4) (r .n5)
-
 -- calls one after the other, each on the page that the one before left
-unfoldable pub callPages : List ℕ → List Record → List ℕ
+unfoldable pub callPages : List ℕ → List Command → List ℕ
 callPages page [] = page
-callPages page (r ∷ rs) = callPages (callPageOf page r) rs
+callPages page (r ∷ rs) = callPages (callPage page r) rs
 
 -- of `pillar_fresh`, of `pillar_call`, and of calls one after the other
 pub record Laws : Type 0 where
   -- the writer refuses only a short buffer: fresh never answers 12
   pub fresh-answer : (page : List ℕ) (f : Fresh) → SettingsInRange f
-      → freshNumberOf page f ≡ numberOr (freshOf f .answer) (cond (leb size (length page)) 0 8)
+      → freshNumber page f ≡ numberOr (freshOf f .answer) (cond (leb size (length page)) 0 8)
   -- 'kind | 13 | not 1–15; the command's reading fails before the record is touched': whatever the page holds
-  pub call-no-kind : (page : List ℕ) (r : Record) → within 1 15 (r .kind) ≡ false → callNumberOf page r ≡ 13
+  pub call-no-kind : (page : List ℕ) (r : Command) → within 1 15 (r .kind) ≡ false → callNumber page r ≡ 13
   -- of a kind from 1 to 15 the reader's refusal of the page comes next
-  pub call-unread : (page : List ℕ) (r : Record) (n : ℕ) → within 1 15 (r .kind) ≡ true → readOf page .answer ≡ Refused n → callNumberOf page r ≡ n
+  pub call-unread : (page : List ℕ) (r : Command) (n : ℕ) → within 1 15 (r .kind) ≡ true → readOf page .answer ≡ Refused n → callNumber page r ≡ n
   -- a call on a page that is read answers as the machine does
-  pub call-answer : (page : List ℕ) (r : Record) → Bytes page → readOf page .answer ≡ Accepted → AllInRange (callsIn (r ∷ []))
-      → callNumberOf page r ≡ answerNumber (nextOf (readOf page .meter) r .answer)
+  pub call-answer : (page : List ℕ) (r : Command) → Bytes page → readOf page .answer ≡ Accepted → AllInRange (callsIn (r ∷ []))
+      → callNumber page r ≡ answerNumber (nextOf (readOf page .meter) r .answer)
   -- it leaves the page of the record that the machine hands back, accepted or refused
-  pub call-page : (page : List ℕ) (r : Record) → Bytes page → readOf page .answer ≡ Accepted → AllInRange (callsIn (r ∷ []))
-      → callPageOf page r ≡ pageOf (nextOf (readOf page .meter) r .meter)
+  pub call-page : (page : List ℕ) (r : Command) → Bytes page → readOf page .answer ≡ Accepted → AllInRange (callsIn (r ∷ []))
+      → callPage page r ≡ pageOf (nextOf (readOf page .meter) r .meter)
   -- on any number but 0 every byte stays
-  pub fresh-refused : (page : List ℕ) (f : Fresh) → (freshNumberOf page f ≡ 0 → ⊥) → freshPageOf page f ≡ page
-  pub call-refused : (page : List ℕ) (r : Record) → (callNumberOf page r ≡ 0 → ⊥) → callPageOf page r ≡ page
+  pub fresh-refused : (page : List ℕ) (f : Fresh) → (freshNumber page f ≡ 0 → ⊥) → freshPage page f ≡ page
+  pub call-refused : (page : List ℕ) (r : Command) → (callNumber page r ≡ 0 → ⊥) → callPage page r ≡ page
   -- calls from an accepted fresh, refused ones among them, leave the page of their history's account
-  pub account-page : (page : List ℕ) (f : Fresh) (rs : List Record) → length page ≡ size → freshOf f .answer ≡ Accepted → SettingsInRange f
-      → AllInRange (callsIn rs) → callPages (freshPageOf page f) rs ≡ accountPage (account builtIn f (callsIn rs))
+  pub account-page : (page : List ℕ) (f : Fresh) (rs : List Command) → length page ≡ size → freshOf f .answer ≡ Accepted → SettingsInRange f
+      → AllInRange (callsIn rs) → callPages (freshPage page f) rs ≡ accountPage (account builtIn f (callsIn rs))

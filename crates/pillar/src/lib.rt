@@ -3,10 +3,13 @@
 // answers 0 or the number of a refusal, and a refusal leaves every byte. `include/pillar.h` declares
 // them.
 ghost use mathlib.Core.Path.{_≡_};
+ghost use Rattle.calls.specs.Calls.{commandOf};
+ghost use Rattle.meter.specs.Settings.{settingsOf};
 ghost use Rattle.replay.specs.Replay.{replayAnswer, replayed};
 ghost use Rattle.pillar.specs.Interface.{keptNumber, keptPage, freshNumber, freshPage, callNumber, callPage, replayNumber, checkNumber};
 ghost use Rattle.pillar.specs.Laws.{Laws};
 use calls::Answer;
+use calls::Command;
 use calls::Parsed;
 use meter::Meter;
 use meter::Outcome;
@@ -47,7 +50,7 @@ pub extern "C" fn pillar_fresh(
     under: u32,
     clock: u32,
 ) -> u32
-    ensures { λ r. ⌜ (r ≡ freshNumber (now (page .entry)) mode threshold over under clock) × (now (page .exit) ≡ freshPage (now (page .entry)) mode threshold over under clock) ⌝ }
+    ensures { λ r. ⌜ (r ≡ freshNumber (now (page .entry)) (settingsOf mode threshold over under clock)) × (now (page .exit) ≡ freshPage (now (page .entry)) (settingsOf mode threshold over under clock)) ⌝ }
 {
     keep(Meter::fresh(mode, threshold, over, under, clock), page)
 }
@@ -64,10 +67,18 @@ pub extern "C" fn pillar_call(
     n4: u32,
     n5: u32,
 ) -> u32
-    ensures { λ r. ⌜ (r ≡ callNumber (now (page .entry)) kind n1 n2 n3 n4 n5) × (now (page .exit) ≡ callPage (now (page .entry)) kind n1 n2 n3 n4 n5) ⌝ }
+    ensures { λ r. ⌜ (r ≡ callNumber (now (page .entry)) (commandOf kind n1 n2 n3 n4 n5)) × (now (page .exit) ≡ callPage (now (page .entry)) (commandOf kind n1 n2 n3 n4 n5)) ⌝ }
     ensures laws { λ _. ⌜ Laws ⌝ }
 {
-    let parsed = calls::read_kind(kind, n1, n2, n3, n4, n5);
+    let command = Command {
+        kind,
+        n1,
+        n2,
+        n3,
+        n4,
+        n5,
+    };
+    let parsed = calls::read_kind(command);
     let Parsed::Ok(call) = parsed else {
         return 13;
     };

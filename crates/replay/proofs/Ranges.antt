@@ -10,13 +10,13 @@ use borrow.Author.Tests.{ltb-true, ltb-false, le-leb}
 use Rattle.codec.specs.Format.{AllHold}
 use Rattle.calls.specs.declared.Call.{Call}
 use Rattle.calls.specs.declared.Call.the-variants.{Sample, RemoteDisconnect, RemoteReconnect, ManualDisconnect, ManualReconnect, SetMode, SetLimiter, SetClock, Event, SetAlarmFilter, SetErrorFilter, ClearAlarms, ClearErrors, ClearLog, Script}
+use Rattle.calls.specs.declared.Command.{Command}
 use Rattle.calls.specs.declared.Parsed.{Parsed}
 use Rattle.calls.specs.declared.Parsed.the-variants.{Ok, NoKind}
 use Rattle.calls.specs.Calls.{signedOf, callOf, Word, Signed, InRange, AllInRange}
 use Rattle.meter.specs.Settings.{SettingsInRange}
-use Rattle.replay.specs.declared.Record.{Record}
 use Rattle.replay.specs.Input.{recordFormat}
-use Rattle.replay.specs.Replay.{settingsIn, parsedIn, withCall, callsIn}
+use Rattle.replay.specs.Replay.{settingsIn, withCall, callsIn}
 
 -- a number of four bytes is one of 32 bits, and so is its two's complement
 word : (n : ℕ) → n < 256 ^ 4 → Word n
@@ -38,42 +38,43 @@ this-or : (b : Bool) (c : Call) (rest : Parsed) → InRange c → ParsedInRange 
 this-or true c rest i r = i
 this-or false c rest i r = r
 
--- of any kind and any numbers of 32 bits
-pub call-range : (k n1 n2 n3 n4 n5 : ℕ) → n1 < 256 ^ 4 → n2 < 256 ^ 4 → n3 < 256 ^ 4 → ParsedInRange (callOf k n1 n2 n3 n4 n5)
+-- of any command of numbers of 32 bits
+pub call-range : (r : Command) → r .n1 < 256 ^ 4 → r .n2 < 256 ^ 4 → r .n3 < 256 ^ 4 → ParsedInRange (callOf r)
 unfolding callOf
-call-range k n1 n2 n3 n4 n5 h1 h2 h3 =
-    let n = word n1 h1 in
-    let z = signed-range n1 h1 in
-    let limits : InRange (SetLimiter (signedOf n1) n2 n3) = (z, (word n2 h2, word n3 h3)) in
-    this-or (eqb k 1) (Sample (signedOf n1)) _ z
+call-range r h1 h2 h3 =
+    let k = r .kind in
+    let n = word (r .n1) h1 in
+    let z = signed-range (r .n1) h1 in
+    let limits : InRange (SetLimiter (signedOf (r .n1)) (r .n2) (r .n3)) = (z, (word (r .n2) h2, word (r .n3) h3)) in
+    this-or (eqb k 1) (Sample (signedOf (r .n1))) _ z
     (this-or (eqb k 2) RemoteDisconnect _ tt
     (this-or (eqb k 3) RemoteReconnect _ tt
     (this-or (eqb k 4) ManualDisconnect _ tt
     (this-or (eqb k 5) ManualReconnect _ tt
-    (this-or (eqb k 6) (SetMode n1) _ n
-    (this-or (eqb k 7) (SetLimiter (signedOf n1) n2 n3) _ limits
-    (this-or (eqb k 8) (SetClock n1) _ n
-    (this-or (eqb k 9) (Event n1) _ n
-    (this-or (eqb k 10) (SetAlarmFilter n1) _ n
-    (this-or (eqb k 11) (SetErrorFilter n1) _ n
-    (this-or (eqb k 12) (ClearAlarms n1) _ n
-    (this-or (eqb k 13) (ClearErrors n1) _ n
-    (this-or (eqb k 14) (ClearLog n1) _ n
-    (this-or (eqb k 15) (Script n1) _ n
+    (this-or (eqb k 6) (SetMode (r .n1)) _ n
+    (this-or (eqb k 7) (SetLimiter (signedOf (r .n1)) (r .n2) (r .n3)) _ limits
+    (this-or (eqb k 8) (SetClock (r .n1)) _ n
+    (this-or (eqb k 9) (Event (r .n1)) _ n
+    (this-or (eqb k 10) (SetAlarmFilter (r .n1)) _ n
+    (this-or (eqb k 11) (SetErrorFilter (r .n1)) _ n
+    (this-or (eqb k 12) (ClearAlarms (r .n1)) _ n
+    (this-or (eqb k 13) (ClearErrors (r .n1)) _ n
+    (this-or (eqb k 14) (ClearLog (r .n1)) _ n
+    (this-or (eqb k 15) (Script (r .n1)) _ n
     tt))))))))))))))
 
-module _ (r : Record) (h : recordFormat .Holds r) where
+module _ (r : Command) (h : recordFormat .Holds r) where
   pub settings-range : SettingsInRange (settingsIn r)
   settings-range = record { threshold = signed-range (r .n2) (h .0 .1 .1 .0); clock = word (r .n5) (h .0 .1 .1 .1 .1 .1) }
 
-  pub parsed-range : ParsedInRange (parsedIn r)
-  parsed-range = call-range (r .kind) (r .n1) (r .n2) (r .n3) (r .n4) (r .n5) (h .0 .1 .0) (h .0 .1 .1 .0) (h .0 .1 .1 .1 .0)
+  pub parsed-range : ParsedInRange (callOf r)
+  parsed-range = call-range r (h .0 .1 .0) (h .0 .1 .1 .0) (h .0 .1 .1 .1 .0)
 
 with-call : (p : Parsed) (cs : List Call) → ParsedInRange p → AllInRange cs → AllInRange (withCall p cs)
 with-call (Ok c) cs i is = (i, is)
 with-call NoKind cs i is = is
 
-pub calls-range : (rs : List Record) → AllHold recordFormat rs → AllInRange (callsIn rs)
+pub calls-range : (rs : List Command) → AllHold recordFormat rs → AllInRange (callsIn rs)
 unfolding callsIn
 calls-range [] h = tt
-calls-range (r ∷ rs) h = with-call (parsedIn r) (callsIn rs) (parsed-range r (h .0)) (calls-range rs (h .1))
+calls-range (r ∷ rs) h = with-call (callOf r) (callsIn rs) (parsed-range r (h .0)) (calls-range rs (h .1))

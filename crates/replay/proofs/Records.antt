@@ -10,7 +10,8 @@ use Rattle.codec.specs.Format.{Format, numAt, encs, decs, AllHold}
 use Rattle.codec.specs.Lawful.{Lawful}
 use Rattle.codec.proofs.Numbers.{numAt-past}
 use Rattle.codec.proofs.Formats.{num-lawful, pair-lawful, via-lawful, length-encs, times-lawful}
-use Rattle.replay.specs.declared.Record.{Record}
+use Rattle.calls.specs.declared.Command.{Command}
+use Rattle.calls.specs.Calls.{commandOf}
 use Rattle.replay.specs.Input.{numbersOf, ofNumbers, recordFormat}
 use Rattle.replay.specs.Replay.{firstIn, laterIn}
 
@@ -23,10 +24,10 @@ record-lawful =
 
 module _ (s : List ℕ) (at : ℕ) where
   pub record-numbers : recordFormat .dec s at
-      ≡ ofNumbers (numAt 1 s at, (numAt 4 s (at + 1), (numAt 4 s (at + 5), (numAt 4 s (at + 9), (numAt 4 s (at + 13), numAt 4 s (at + 17))))))
+      ≡ commandOf (numAt 1 s at) (numAt 4 s (at + 1)) (numAt 4 s (at + 5)) (numAt 4 s (at + 9)) (numAt 4 s (at + 13)) (numAt 4 s (at + 17))
   record-numbers = simp add-assoc
 
-  pub record-past : length s ≤ at → recordFormat .dec s at ≡ ofNumbers (0, (0, (0, (0, (0, 0)))))
+  pub record-past : length s ≤ at → recordFormat .dec s at ≡ commandOf 0 0 0 0 0 0
   record-past h =
       record-numbers
       ∙ rw (
@@ -39,7 +40,7 @@ module _ (s : List ℕ) (at : ℕ) where
       )
 
 -- the records of an input as they were written
-pub first-read : (r : Record) (rs : List Record) → AllHold recordFormat (r ∷ rs) → firstIn (encs recordFormat (r ∷ rs)) ≡ r
+pub first-read : (r : Command) (rs : List Command) → AllHold recordFormat (r ∷ rs) → firstIn (encs recordFormat (r ∷ rs)) ≡ r
 unfolding flatMap
 first-read r rs h = record-lawful .read-written r (h .0) [] (encs recordFormat rs)
 
@@ -48,7 +49,7 @@ unfolding flatMap
 rest-read {F = F} L a l h =
     rw (append-nil, L .length-enc a (h .0)) at (times-lawful L (length l) .read-written l (refl, h .1) (F .enc a) [])
 
-pub later-read : (r : Record) (rs : List Record) → AllHold recordFormat (r ∷ rs) → laterIn (encs recordFormat (r ∷ rs)) ≡ rs
+pub later-read : (r : Command) (rs : List Command) → AllHold recordFormat (r ∷ rs) → laterIn (encs recordFormat (r ∷ rs)) ≡ rs
 later-read r rs h =
     let s = encs recordFormat (r ∷ rs) in
     let count : length s / 21 - 1 ≡ length rs = omega (arith, length-encs record-lawful (r ∷ rs) h) in

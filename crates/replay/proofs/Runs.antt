@@ -14,6 +14,7 @@ use Rattle.events.specs.Table.{builtIn}
 use Rattle.logs.specs.Layout.{Sized}
 use Rattle.calls.specs.declared.Answer.{Answer}
 use Rattle.calls.specs.declared.Answer.the-variants as answer
+use Rattle.calls.specs.declared.Command.{Command}
 use Rattle.calls.specs.declared.Parsed.{Parsed}
 use Rattle.calls.specs.declared.Parsed.the-variants.{Ok, NoKind}
 use Rattle.calls.specs.declared.Call.{Call}
@@ -32,11 +33,10 @@ use Rattle.meter.proofs.Laws.{built-in}
 use Rattle.page.specs.Layout.{size, pageOf, writeAnswer, written}
 use Rattle.page.specs.AccountPage.{accountPage}
 use Rattle.page.proofs.Printed.{list-written}
-use Rattle.replay.specs.declared.Record.{Record}
 use Rattle.replay.specs.declared.Replayed.{Replayed}
 use Rattle.replay.specs.declared.Replayed.the-variants.{Written, Refused}
 use Rattle.replay.specs.Input.{recordFormat}
-use Rattle.replay.specs.Replay.{recordLength, firstIn, recordsFrom, laterIn, settingsIn, parsedIn, withCall, callsIn, startOf, nextOf, meterAfter, lastMeter, accountIn, unlessRefused, endOf, replayAnswer, bufferAfter, replayed}
+use Rattle.replay.specs.Replay.{recordLength, firstIn, recordsFrom, laterIn, settingsIn, withCall, callsIn, startOf, nextOf, meterAfter, lastMeter, accountIn, unlessRefused, endOf, replayAnswer, bufferAfter, replayed}
 use Rattle.replay.proofs.Records.{record-lawful}
 use Rattle.replay.proofs.Ranges.{ParsedInRange, settings-range, parsed-range, calls-range}
 
@@ -55,9 +55,9 @@ module _ (s : List ℕ) (i : ℕ) where
       rw none
 
 -- the meter after a record is the one that its call, if it names one, gets it to
-pub meter-next : (m : Meter) (r : Record) (rs : List Record) → meterAfter m (r ∷ rs) ≡ meterAfter (nextOf m r .meter) rs
+pub meter-next : (m : Meter) (r : Command) (rs : List Command) → meterAfter m (r ∷ rs) ≡ meterAfter (nextOf m r .meter) rs
 unfolding recordAfter callsIn commanded
-meter-next m r rs = go (parsedIn r)
+meter-next m r rs = go (callOf r)
   where
     go : (p : Parsed) → recordAfter builtIn m (withCall p (callsIn rs)) ≡ recordAfter builtIn (performed builtIn m p .meter) (callsIn rs)
     go (Ok c) = refl
@@ -68,22 +68,22 @@ performed-sized : (m : Meter) (p : Parsed) → Sized (m .logs) → Sized (perfor
 performed-sized m (Ok c) z = applied-sized builtIn m c z
 performed-sized m NoKind z = z
 
-commanded-sized : (m : Meter) (k n1 n2 n3 n4 n5 : ℕ) → Sized (m .logs) → Sized (commanded builtIn m k n1 n2 n3 n4 n5 .meter .logs)
+commanded-sized : (m : Meter) (r : Command) → Sized (m .logs) → Sized (commanded builtIn m r .meter .logs)
 unfolding commanded
-commanded-sized m k n1 n2 n3 n4 n5 z = performed-sized m (callOf k n1 n2 n3 n4 n5) z
+commanded-sized m r = performed-sized m (callOf r)
 
 -- a sound meter stays sound, whatever the record
-next-sound : (m : Meter) (r : Record) → recordFormat .Holds r → Sized (m .logs) → soundMeter builtIn m ≡ true
+next-sound : (m : Meter) (r : Command) → recordFormat .Holds r → Sized (m .logs) → soundMeter builtIn m ≡ true
     → soundMeter builtIn (nextOf m r .meter) ≡ true
 unfolding recordAfter callsIn
-next-sound m r h z e = ap (soundMeter builtIn) (sym (meter-next m r [])) ∙ go (parsedIn r) (parsed-range r h)
+next-sound m r h z e = ap (soundMeter builtIn) (sym (meter-next m r [])) ∙ go (callOf r) (parsed-range r h)
   where
     go : (p : Parsed) → ParsedInRange p → soundMeter builtIn (recordAfter builtIn m (withCall p [])) ≡ true
     go (Ok c) i = built-in .kept-sound m c z i e
     go NoKind i = e
 
 -- a turn of it: the record at i is behind it, and those from i + 1 on are left
-module _ (s : List ℕ) (i : ℕ) (m : Meter) (r : Record) (o : Outcome) (h : i < length s / 21) where
+module _ (s : List ℕ) (i : ℕ) (m : Meter) (r : Command) (o : Outcome) (h : i < length s / 21) where
   pub after-record : r ≡ recordFormat .dec s (i * 21) → o ≡ nextOf m r → meterAfter (o .meter) (recordsFrom (i + 1) s) ≡ meterAfter m (recordsFrom i s)
   after-record read next = rw (next, read, records-next s i h) (sym (meter-next m (recordFormat .dec s (i * 21)) (recordsFrom (i + 1) s)))
 
@@ -93,7 +93,7 @@ module _ (s : List ℕ) (i : ℕ) (m : Meter) (r : Record) (o : Outcome) (h : i 
       × (meterAfter (o .meter) (recordsFrom (i + 1) s) ≡ meterAfter m (recordsFrom i s))
   next-turn read next bytes (z, e) =
       let sound = next-sound m (recordFormat .dec s (i * 21)) (record-lawful .held-read s (i * 21) bytes refl) z e in
-      ((rw next (commanded-sized m _ _ _ _ _ _ z), rw (next, read) sound), after-record read next)
+      ((rw next (commanded-sized m r z), rw (next, read) sound), after-record read next)
 
 -- a meter that is not sound stays as it is, whatever the calls
 refused-all : (m : Meter) (calls : List Call) → soundMeter builtIn m ≡ false → recordAfter builtIn m calls ≡ m
@@ -101,7 +101,7 @@ unfolding recordAfter applied
 refused-all m [] e = refl
 refused-all m (c ∷ calls) e = rw e (refused-all m calls e)
 
-pub not-sound-run : (m : Meter) (rs : List Record) → soundMeter builtIn m ≡ false → m ≡ meterAfter m rs
+pub not-sound-run : (m : Meter) (rs : List Command) → soundMeter builtIn m ≡ false → m ≡ meterAfter m rs
 not-sound-run m rs e = sym (refused-all m (callsIn rs) e)
 
 pub last-turn : (s : List ℕ) (i : ℕ) (m : Meter) → length s / 21 ≤ i → meterAfter m (recordsFrom i s) ≡ m
@@ -177,7 +177,8 @@ unfolding replayAnswer
 begun s out o some whole fresh e = record { start = e; answer = rw (some, whole, fresh, e) }
 
 -- fresh is accepted, and the writer was given the meter m after whole records
-module _ {s out : List ℕ} {o : Outcome} (b : Begun s out o) (bytes : Bytes s) (accepted : o .answer ≡ answer.Accepted) (whole : eqb (length s % recordLength) 0 ≡ true) where
+module _ {s out : List ℕ} {o : Outcome} (b : Begun s out o) (bytes : Bytes s) (accepted : o .answer ≡ answer.Accepted)
+    (whole : eqb (length s % recordLength) 0 ≡ true) where
   pub ended : (m : Meter) (a : Answer) (page : List ℕ) → m ≡ meterAfter (o .meter) (laterIn s) → (a ≡ writeAnswer m out) × (page ≡ written m out)
       → (unlessRefused a Written ≡ replayAnswer s out) × (page ≡ replayed s out)
   ended m a page run wrote =

@@ -4,22 +4,23 @@ use mathlib.Core.List.{List, [], _∷_, _++_}
 use Prim.Native.Nat.{ℕ}
 use lib.ListN.{replicate}
 use Rattle.codec.specs.BigEndian.{be}
+use Rattle.calls.specs.declared.Command.{Command}
+use Rattle.calls.specs.Calls.{commandOf}
 use Rattle.history.specs.Examples.{exampleSettings, exampleCalls}
-use Rattle.replay.specs.declared.Record.{Record}
 use Rattle.replay.specs.declared.Replayed.the-variants.{Written, Empty, Bad, Short, Refused}
 use Rattle.replay.specs.Replay.{settingsIn, callsIn, replayAnswer}
 use Rattle.replay.specs.Listing.{decimal, lineBytes}
 
 -- a record of a kind and its first number; 'unused ones ignored'
-abbrev pub recordOfKind : ℕ → ℕ → Record
-recordOfKind k n = record { kind = k; n1 = n; n2 = 0; n3 = 0; n4 = 0; n5 = 0 }
+abbrev pub recordOfKind : ℕ → ℕ → Command
+recordOfKind k n = commandOf k n 0 0 0 0
 
 -- 'Fresh (5, 3000, 2, 3, 1000)'
-abbrev pub firstRecord : Record
-firstRecord = record { kind = 0; n1 = 5; n2 = 3000; n3 = 2; n4 = 3; n5 = 1000 }
+abbrev pub firstRecord : Command
+firstRecord = commandOf 0 5 3000 2 3 1000
 
 -- 'samples 3000, 3001, 3001; call 5; samples 0, −5, 0; call 2; call 5; script 3; script 2; mode 7; mode 0; call 2'
-abbrev pub laterRecords : List Record
+abbrev pub laterRecords : List Command
 laterRecords =
     recordOfKind 1 3000 ∷ recordOfKind 1 3001 ∷ recordOfKind 1 3001
     ∷ recordOfKind 5 0

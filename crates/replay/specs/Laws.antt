@@ -6,10 +6,10 @@ use lib.ListN.{length, take, drop}
 use Rattle.codec.specs.Format.{encs, AllHold}
 use Rattle.codec.specs.Lawful.{Bytes, Lawful}
 use Rattle.calls.specs.declared.Answer.the-variants.{Accepted}
+use Rattle.calls.specs.declared.Command.{Command}
 use Rattle.meter.specs.State.{recordOf}
 use Rattle.meter.specs.Holding.{holding}
 use Rattle.page.specs.AccountPage.{pageLength, accountPage}
-use Rattle.replay.specs.declared.Record.{Record}
 use Rattle.replay.specs.declared.Replayed.the-variants.{Written}
 use Rattle.replay.specs.Input.{recordFormat}
 use Rattle.replay.specs.Replay.{firstIn, laterIn, startOf, lastMeter, accountIn, replayAnswer, replayed}
@@ -32,8 +32,8 @@ pub record Laws : Type 0 where
   pub record-width : recordFormat .width ≡ 21
   pub record-lawful : Lawful recordFormat
   -- an input's records are read as they were written: the first, and those after it
-  pub first-read : (r : Record) (rs : List Record) → AllHold recordFormat (r ∷ rs) → firstIn (encs recordFormat (r ∷ rs)) ≡ r
-  pub later-read : (r : Record) (rs : List Record) → AllHold recordFormat (r ∷ rs) → laterIn (encs recordFormat (r ∷ rs)) ≡ rs
+  pub first-read : (r : Command) (rs : List Command) → AllHold recordFormat (r ∷ rs) → firstIn (encs recordFormat (r ∷ rs)) ≡ r
+  pub later-read : (r : Command) (rs : List Command) → AllHold recordFormat (r ∷ rs) → laterIn (encs recordFormat (r ∷ rs)) ≡ rs
   -- the meter that the machine reaches record by record, from an accepted fresh, holds the account of the history
   pub account-held : (s : List ℕ) → Bytes s → startOf (firstIn s) .answer ≡ Accepted → lastMeter s ≡ recordOf (holding (accountIn s))
   -- 'the page after the one equals the page after the other exactly when the accounts of the two histories are equal', from bytes to page

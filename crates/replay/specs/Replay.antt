@@ -9,6 +9,7 @@ use Rattle.events.specs.Table.{builtIn}
 use Rattle.calls.specs.declared.Call.{Call}
 use Rattle.calls.specs.declared.Answer.{Answer}
 use Rattle.calls.specs.declared.Answer.the-variants as answer
+use Rattle.calls.specs.declared.Command.{Command}
 use Rattle.calls.specs.declared.Parsed.{Parsed}
 use Rattle.calls.specs.declared.Parsed.the-variants.{Ok, NoKind}
 use Rattle.calls.specs.Calls.{signedOf, callOf}
@@ -19,7 +20,6 @@ use Rattle.meter.specs.Machine.{commanded, recordAfter}
 use Rattle.meter.specs.Settings.{settingsOf, freshAnswer}
 use Rattle.meter.specs.Fresh.{freshOf}
 use Rattle.page.specs.AccountPage.{pageLength, accountPage}
-use Rattle.replay.specs.declared.Record.{Record}
 use Rattle.replay.specs.declared.Replayed.{Replayed}
 use Rattle.replay.specs.declared.Replayed.the-variants.{Written, Empty, Bad, Short, Refused}
 use Rattle.replay.specs.Input.{recordFormat}
@@ -31,24 +31,20 @@ abbrev pub recordLength : ℕ
 recordLength = recordFormat .width
 
 -- 'The first ..'
-abbrev pub firstIn : List ℕ → Record
+abbrev pub firstIn : List ℕ → Command
 firstIn s = recordFormat .dec s 0
 
 -- the whole records from number i on, counted from 0, in order
-abbrev pub recordsFrom : ℕ → List ℕ → List Record
+abbrev pub recordsFrom : ℕ → List ℕ → List Command
 recordsFrom i s = decs recordFormat (length s / recordLength - i) s (i * recordLength)
 
 -- those after the first
-abbrev pub laterIn : List ℕ → List Record
+abbrev pub laterIn : List ℕ → List Command
 laterIn s = recordsFrom 1 s
 
 -- 'Fresh takes mode, threshold, Over, Under, clock'; 'a sample or threshold is two's complement'
-abbrev pub settingsIn : Record → Fresh
+abbrev pub settingsIn : Command → Fresh
 settingsIn r = settingsOf (r .n1) (signedOf (r .n2)) (r .n3) (r .n4) (r .n5)
-
--- what a record's kind and numbers name
-abbrev pub parsedIn : Record → Parsed
-parsedIn r = callOf (r .kind) (r .n1) (r .n2) (r .n3) (r .n4) (r .n5)
 
 -- 'kind | 13 | not 1–15; the command's reading fails before the record is touched': such a record adds no call
 abbrev pub withCall : Parsed → List Call → List Call
@@ -56,22 +52,22 @@ withCall (Ok c) cs = c ∷ cs
 withCall NoKind cs = cs
 
 -- the calls that records name, in order
-unfoldable pub callsIn : List Record → List Call
+unfoldable pub callsIn : List Command → List Call
 callsIn [] = []
-callsIn (r ∷ rs) = withCall (parsedIn r) (callsIn rs)
+callsIn (r ∷ rs) = withCall (callOf r) (callsIn rs)
 
 -- ---- the records, one by one
 
 -- 'The first has kind 0 and is fresh': what it makes, if it has kind 0
-abbrev pub startOf : Record → Outcome
+abbrev pub startOf : Command → Outcome
 startOf r = freshOf (settingsIn r)
 
 -- 'each next one the record that the call before handed back': a later record on a meter
-abbrev pub nextOf : Meter → Record → Outcome
-nextOf m r = commanded builtIn m (r .kind) (r .n1) (r .n2) (r .n3) (r .n4) (r .n5)
+abbrev pub nextOf : Meter → Command → Outcome
+nextOf m r = commanded builtIn m r
 
 -- the meter after some records: the machine's, after the calls that they name
-abbrev pub meterAfter : Meter → List Record → Meter
+abbrev pub meterAfter : Meter → List Command → Meter
 meterAfter m rs = recordAfter builtIn m (callsIn rs)
 
 -- the meter after the last record, by the machine

@@ -3,16 +3,16 @@ ghost use mathlib.Core.Path.{_≡_};
 ghost use Prim.Native.Nat.{_+_, _≤_};
 ghost use lib.ListN.{length};
 ghost use Rattle.replay.specs.Input.{recordFormat};
-use crate::Record;
+use calls::Command;
 
-// The record in the 21 bytes at an offset. Bytes past the end read as zero: whether a record is cut
+// The command in the 21 bytes at an offset. Bytes past the end read as zero: whether a record is cut
 // short is for the caller to see.
-pub fn record_at(bytes: &[u8], at: usize) -> Record
+pub fn record_at(bytes: &[u8], at: usize) -> Command
     ensures { λ r. ⌜ r ≡ recordFormat .dec (now (bytes .entry)) at ⌝ }
 {
     // Below a length, `at + 17` does not wrap.
     if bytes.len() <= at {
-        return Record {
+        return Command {
             kind: 0,
             n1: 0,
             n2: 0,
@@ -21,8 +21,9 @@ pub fn record_at(bytes: &[u8], at: usize) -> Record
             n5: 0,
         };
     }
-    Record {
-        kind: codec::get_u8(bytes, at),
+    let kind = codec::get_u8(bytes, at) as u32;
+    Command {
+        kind,
         n1: codec::get_u32(bytes, at + 1),
         n2: codec::get_u32(bytes, at + 5),
         n3: codec::get_u32(bytes, at + 9),
@@ -31,14 +32,15 @@ pub fn record_at(bytes: &[u8], at: usize) -> Record
     }
 }
 
-// The record in 21 bytes that lie inside the slice, which it requires: with no test of each number. A
+// The same where the 21 bytes lie inside the slice, which it requires: with no test of each number. A
 // run over a list has counted its whole records once.
-pub(crate) fn whole_record_at(bytes: &[u8], at: usize) -> Record
+pub(crate) fn whole_record_at(bytes: &[u8], at: usize) -> Command
     requires { ⌜ at + recordFormat .width ≤ length (now bytes) ⌝ }
     ensures { λ r. ⌜ r ≡ recordFormat .dec (now (bytes .entry)) at ⌝ }
 {
-    Record {
-        kind: bytes[at],
+    let kind = bytes[at] as u32;
+    Command {
+        kind,
         n1: codec::u32_at(bytes, at + 1),
         n2: codec::u32_at(bytes, at + 5),
         n3: codec::u32_at(bytes, at + 9),

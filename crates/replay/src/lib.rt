@@ -19,17 +19,7 @@ pub use run::next;
 pub use run::run_from;
 pub use run::start;
 
-// A record of the input: the kind of a call, 0 for fresh, and the numbers that it takes.
-pub struct Record {
-    pub kind: u8,
-    pub n1: u32,
-    pub n2: u32,
-    pub n3: u32,
-    pub n4: u32,
-    pub n5: u32,
-}
-
-// Its length in bytes.
+// The length of a record in bytes. A record is a command, the first one of kind 0 and fresh.
 pub const RECORD_LEN: usize = 21;
 
 // A line of the listing: the bytes from `start` to the end. Digits come out of a number from the last

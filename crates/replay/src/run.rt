@@ -3,13 +3,13 @@
 ghost use mathlib.Core.Path.{_≡_};
 ghost use Rattle.replay.specs.Replay.{recordsFrom, startOf, nextOf, meterAfter};
 use crate::RECORD_LEN;
-use crate::Record;
 use crate::input;
+use calls::Command;
 use meter::Meter;
 use meter::Outcome;
 
 // The first record, which is to be of kind 0: a fresh meter, or its refusal.
-pub fn start(first: Record) -> Outcome
+pub fn start(first: Command) -> Outcome
     ensures { λ r. ⌜ r ≡ startOf first ⌝ }
 {
     Meter::fresh(
@@ -22,17 +22,10 @@ pub fn start(first: Record) -> Outcome
 }
 
 // A later record: a call, or a kind that is refused.
-pub fn next(meter: Meter, later: Record) -> Outcome
+pub fn next(meter: Meter, later: Command) -> Outcome
     ensures { λ r. ⌜ r ≡ nextOf meter later ⌝ }
 {
-    meter.command(
-        later.kind as u32,
-        later.n1,
-        later.n2,
-        later.n3,
-        later.n4,
-        later.n5,
-    )
+    meter.command(later)
 }
 
 // The meter after the whole records from number `first` on, counted from 0. It is tested once: one that
@@ -51,18 +44,7 @@ pub fn run_from(before: Meter, records: &[u8], first: usize) -> Meter
     let count = records.len() / RECORD_LEN;
     for i in first..count {
         let record = input::whole_record_at(records, i * RECORD_LEN);
-        let answered = meter::command_sound(
-            scalars,
-            &mut counts,
-            &mut clocks,
-            &mut codes,
-            record.kind as u32,
-            record.n1,
-            record.n2,
-            record.n3,
-            record.n4,
-            record.n5,
-        );
+        let answered = meter::command_sound(scalars, &mut counts, &mut clocks, &mut codes, record);
         scalars = answered.scalars;
     }
     Meter::of_parts(scalars, counts, clocks, codes)

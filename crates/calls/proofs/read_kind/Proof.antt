@@ -16,7 +16,7 @@ returns c = (rw (c .before .match .keys1) (ap (λ (z : ℤ). Ok (Sample z)) (sea
 returns-7 : tie.Need-returns-7
 unfolding callOf
 returns-7 c =
-    let a = c .before .before .args in
+    let a = c .before .before .args .command in
     (rw (c .before .match .keys7) (ap (λ (z : ℤ). Ok (SetLimiter z (a .n2) (a .n3))) (search needs ∙ c .signed2 .ensures)), laws)
 
 pub read-kind-spec : {M : Type 1} → statement M

@@ -7,7 +7,7 @@ use lib.Dec.{eqb, ltb}
 use lib.ListN.{length}
 use borrow.Author.Needs.{needs}
 use borrow.Author.Tests.{eq-eqb, ne-eqb, lt-ltb, le-ltb}
-use Rattle.replay.specs.declared.Record.{Record}
+use Rattle.calls.specs.declared.Command.{Command}
 use Rattle.replay.specs.declared.Replayed.the-variants.{Written, Empty, Bad, Short, Refused}
 use Rattle.replay.specs.Replay.{recordLength, firstIn, startOf, unlessRefused, replayAnswer, replayed}
 use Rattle.history.specs.Laws.{Laws as AccountLaws}
@@ -55,7 +55,7 @@ first-whole : (c : tie.Else2) → ltb (length (input (start1 (c .before)))) reco
 first-whole c = le-ltb _ _ (c .if2 .left)
 
 kind-read : (c : tie.After-record-at) → c .record-at .result .kind ≡ firstIn (input (start-of-first c)) .kind
-kind-read c = ap (λ (r : Record). r .kind) (c .record-at .ensures)
+kind-read c = ap (λ (r : Command). r .kind) (c .record-at .ensures)
 
 begins : (c : tie.After-start) → Begun (input (start-of-fresh c)) (buffer (start-of-fresh c)) (c .start .result)
 begins c =

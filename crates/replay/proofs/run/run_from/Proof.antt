@@ -43,12 +43,12 @@ mul-whole-record-at : tie.Need-mul-whole-record-at Inv-loop μ-loop
 mul-whole-record-at c = search needs
 
 add-i : tie.Need-add-i Inv-loop μ-loop
-add-i c = omega (arith, mul-whole-record-at (c .before .before .before .before .before .before .before) .fits)
+add-i c = omega (arith, mul-whole-record-at (c .before .before .before .before .before .before) .fits)
 
 loop-again : tie.Need-loop-again Inv-loop μ-loop
 loop-again c =
     let call = c .before .command-sound in
-    let read = c .before .before .before .before .before .before in
+    let read = c .before .before .before .before .before in
     let turn = read .before in
     let l = turn .before .loop in
     let known = turn .before .before .before .before .before .before .before .before in
@@ -58,7 +58,7 @@ loop-again c =
     (outcomeOf (call .result) (call .last .1 .0) (call .last .1 .1 .0) (call .last .1 .1 .1 .0))
     (turn .loop-test .taken)
     (read .whole-record-at .ensures)
-    (call .ensures ∙ built-in .command-in-parts m _ _ _ _ _ _ (l .inv .0 .0) (l .inv .0 .1))
+    (call .ensures ∙ built-in .command-in-parts m _ (l .inv .0 .0) (l .inv .0 .1))
     (λ i. omega (arith, known .shared-slice-known .given i))
     (l .inv .0) in
     (k .0, k .1 ∙ l .inv .1)
@@ -76,4 +76,4 @@ returns-2 c =
 pub run-from-spec : {M : Type 1} → statement M
 run-from-spec =
     tie.close (tie.spec Inv-loop μ-loop (λ c κs. search needs) returns (λ c κs. search needs) loop-holds mul-whole-record-at
-    (λ c κs. search needs) (λ c. search needs) (λ c κs. search needs) add-i (λ c. search needs) loop-again (λ c κs. search needs) returns-2)
+    (λ c κs. search needs) (λ c κs. search needs) add-i (λ c. search needs) loop-again (λ c κs. search needs) returns-2)
