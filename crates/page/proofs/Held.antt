@@ -64,7 +64,8 @@ unfolding storedLines
 lines-held zero at ts cs t c = tt
 lines-held (suc k) at ts cs t c = (((t at, c at), tt), lines-held k (suc at) ts cs t c)
 
-module _ (g : Logs) (n : (i : ℕ) → getD (g .counts) i 0 < 256 ^ 1) (t : (i : ℕ) → getD (g .clocks) i 0 < 256 ^ 4) (c : (i : ℕ) → getD (g .codes) i 0 < 256 ^ 1) where
+module _ (g : Logs) (n : (i : ℕ) → getD (g .counts) i 0 < 256 ^ 1) (t : (i : ℕ) → getD (g .clocks) i 0 < 256 ^ 4)
+    (c : (i : ℕ) → getD (g .codes) i 0 < 256 ^ 1) where
   log-held : (i at : ℕ) → logArea .Holds (getD (g .counts) i 0, storedLines 32 at (g .clocks) (g .codes))
   log-held i at = (n i, (length-lines 32 at (g .clocks) (g .codes), lines-held 32 at (g .clocks) (g .codes) t c))
 

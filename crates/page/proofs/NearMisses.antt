@@ -15,7 +15,8 @@ use Rattle.page.specs.Layout.{ofAreas, layout, writeAnswer, hasPairs, ho
 use Rattle.page.specs.NearMisses.{NearMisses}
 
 pub near-misses : NearMisses
-unfolding readOf hasPairs holdsSound layout ofAreas writeAnswer numAt flatMap soundMeter soundScalars soundControl soundLimiter soundLogs soundArrays soundLog ownCodes zeroPast padded flat laid among below builtIn lookup besides mayHold
+unfolding readOf hasPairs holdsSound layout ofAreas writeAnswer numAt flatMap soundMeter soundScalars soundControl soundLimiter soundLogs soundArrays
+    soundLog ownCodes zeroPast padded flat laid among below builtIn lookup besides mayHold
 near-misses =
     record {
       unchanged = refl;

@@ -49,7 +49,8 @@ unfolding soundScalars soundLimiter
 threshold-scalars s e =
     let l = s .limiter in
     let settings = and-left (soundSettings l) (ltb (l .run) (awaited l)) (and-right (soundControl (s .control)) (soundLimiter l) e) in
-    and-left (isThreshold (l .threshold)) (isDuration (l .over)) (and-left (isThreshold (l .threshold) && isDuration (l .over)) (isDuration (l .under)) settings)
+    and-left (isThreshold (l .threshold)) (isDuration (l .over))
+    (and-left (isThreshold (l .threshold) && isDuration (l .over)) (isDuration (l .under)) settings)
 
 -- and so has a sound record
 pub threshold-sound : (m : Meter) → soundMeter builtIn m ≡ true → isThreshold (m .limiter .threshold) ≡ true

@@ -92,9 +92,11 @@ module _ (t : Trace) where
 -- two accounts with one page are one account
 pub same-account : (s t : Trace) → accountPage (traceAccount s) ≡ accountPage (traceAccount t) → traceAccount s ≡ traceAccount t
 same-account s t e =
-    let records = laws .injective (recordOf (holding (traceAccount s))) (recordOf (holding (traceAccount t))) (typed s) (typed t) (record-is-sound s) (record-is-sound t) (sym (printed s) ∙ e ∙ printed t) in
+    let records = laws .injective (recordOf (holding (traceAccount s))) (recordOf (holding (traceAccount t))) (typed s) (typed t) (record-is-sound s)
+    (record-is-sound t) (sym (printed s) ∙ e ∙ printed t) in
     let values : holding (traceAccount s) ≡ holding (traceAccount t) =
-    sym (built-in .state-of-record (holding (traceAccount s)) refl (values-sound s)) ∙ ap stateOf records ∙ built-in .state-of-record (holding (traceAccount t)) refl (values-sound t) in
+    sym (built-in .state-of-record (holding (traceAccount s)) refl (values-sound s)) ∙ ap stateOf records ∙ built-in .state-of-record
+    (holding (traceAccount t)) refl (values-sound t) in
     ap named values
 
 pub demand-3 : Demand3

@@ -26,7 +26,8 @@ use Rattle.replay.proofs.Ranges.{settings-range}
 use Rattle.replay.proofs.Runs.{in-range, printed}
 
 -- an input that is taken begins with an accepted fresh
-started : (empty short fresh : Bool) (a : Answer) (end : Replayed) → cond empty Empty (cond short Short (cond fresh (unlessRefused a end) Bad)) ≡ Written → a ≡ answer.Accepted
+started : (empty short fresh : Bool) (a : Answer) (end : Replayed)
+    → cond empty Empty (cond short Short (cond fresh (unlessRefused a end) Bad)) ≡ Written → a ≡ answer.Accepted
 started true short fresh a end e = let z : _≡_ {A = ℕ} 0 1 = cc in absurd (omega arith)
 started false true fresh a end e = let z : _≡_ {A = ℕ} 0 1 = cc in absurd (omega arith)
 started false false true answer.Accepted end e = refl

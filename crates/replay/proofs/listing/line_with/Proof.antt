@@ -34,7 +34,8 @@ Stands = Ending (replicate 40 0) 40
 after-openings : (c : tie.After-put-field) → Stands (fromOpenings (start1 c .args .openings)) (c .put-field .last .0) (c .put-field .result)
 after-openings c = record { place = c .put-field .ensures .0; bytes = c .put-field .ensures .1 }
 
-after-state : (c : tie.After-put-field2) → Stands (fromSwitch (start2 c .args .state) (start2 c .args .openings)) (c .put-field2 .last .0) (c .put-field2 .result)
+after-state : (c : tie.After-put-field2)
+    → Stands (fromSwitch (start2 c .args .state) (start2 c .args .openings)) (c .put-field2 .last .0) (c .put-field2 .result)
 after-state c =
     let one = c .before .before .before in
     let s = start1 one in

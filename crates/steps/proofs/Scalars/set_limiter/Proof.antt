@@ -14,7 +14,8 @@ use Rattle.steps.proofs.Scalars.set_limiter.Tie as tie
 same-number : (c : tie.Start) → toZ w32 (ofZ w32 (c .args .threshold)) ≡ c .args .threshold
 same-number c = toZ-ofZ {w = w32} {z = c .args .threshold} (c .fits .threshold)
 
-judged : (c : tie.After-judge-limits) → c .judge-limits .result ≡ limitsAnswer (c .before .args .threshold ∷ []) (c .before .args .over) (c .before .args .under)
+judged : (c : tie.After-judge-limits)
+    → c .judge-limits .result ≡ limitsAnswer (c .before .args .threshold ∷ []) (c .before .args .over) (c .before .args .under)
 judged c = rw (same-number (c .before)) at (c .judge-limits .ensures)
 
 returns : tie.Need-returns
