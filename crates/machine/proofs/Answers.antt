@@ -124,11 +124,6 @@ by-reading rows s (clearBits x n) = refl
 by-reading rows s (clearLog n) = simp (read-cond s)
 by-reading rows s (script n) = simp (request-read s remoteDisconnect, request-read s remoteReconnect, read-cond s)
 
--- ---- after a result: refused, the values are those that came in
-abbrev pub afterResult : State → Result → State
-afterResult v (refusing n) = v
-afterResult v (making k) = stateAfter v k
-
 -- ---- what an accepted call asks for is proper
 abbrev ProperReading : ℕ → Reading → Type 0
 ProperReading m (refused n) = Unit

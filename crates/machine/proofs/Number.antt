@@ -17,7 +17,8 @@ use Rattle.history.specs.Effects.{alarms, errors, AnyCall, Effect, sampled, req
 use Rattle.machine.specs.Values.{Values, State, withControl, withLimiters, withClock}
 use Rattle.machine.specs.Machine.{moving, decided, sampledEach, firedLines, disconnectTried, reconnectTried, afterSample, sampleResult, requestOf, result}
 use Rattle.machine.proofs.Effects.{effectResult, readResult}
-use Rattle.machine.proofs.Answers.{by-reading, afterResult}
+use Rattle.machine.specs.Laws.{afterResult}
+use Rattle.machine.proofs.Answers.{by-reading}
 
 length-each : {A B : Type 0} (k : ℕ) (f : ℕ → A → B) (xs : List A) → length (eachFrom k f xs) ≡ length xs
 unfolding eachFrom

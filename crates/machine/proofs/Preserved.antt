@@ -37,7 +37,8 @@ use Rattle.machine.specs.Machine.{Change, Result, refusing, making, owin
 use Rattle.machine.specs.Fresh.{freshLimiter, freshValues}
 use Rattle.machine.specs.Ranges.{AnySettings, AnyInRange}
 use Rattle.machine.proofs.Lists.{every-number}
-use Rattle.machine.proofs.Answers.{either, afterResult}
+use Rattle.machine.specs.Laws.{afterResult}
+use Rattle.machine.proofs.Answers.{either}
 
 module _ (rows : List EventRow) where
   -- whatever the event table, a log may hold the codes that document 01 lists besides

@@ -4,7 +4,7 @@ use Prim.Native.Nat.{ℕ, suc, _+_}
 use native.Mathlib.Omega.{arith}
 use mathlib.Core.Path.{_≡_, refl, ap, sym, _∙_}
 use mathlib.Core.Bool.{true, cond, and-not-self}
-use mathlib.Core.List.{List, [], _∷_, map}
+use mathlib.Core.List.{List, [], _∷_, map, reverseAux}
 use lib.Dec.{eqb}
 use Rattle.base.specs.Numbers.{held}
 use Rattle.base.specs.Bits.{number}
@@ -27,7 +27,8 @@ use Rattle.machine.specs.Fresh.{freshLimiter, freshValues}
 use Rattle.machine.specs.Holding.{limiterHolding, valuesHolding}
 use Rattle.machine.proofs.Lists.{map-map, by-number}
 use Rattle.machine.proofs.Effects.{effectResult, readResult, Proper, AllProper, none, more, heldLimiters, heldValues, nextOpenings}
-use Rattle.machine.proofs.Answers.{by-reading, afterResult, proper}
+use Rattle.machine.specs.Laws.{afterResult, stateAfterCalls, Laws}
+use Rattle.machine.proofs.Answers.{by-reading, proper}
 use Rattle.machine.proofs.Preserved.{kept-sound, fresh-sound}
 use Rattle.machine.proofs.Clock.{clock-after}
 use Rattle.machine.proofs.Registers.{register-after}
@@ -143,3 +144,19 @@ module _ (rows : List EventRow) (table : every lawful rows ≡ true) (f : AnyFre
   unfolding acceptedCalls openings
   named-sound [] i = rw (← fresh-values f t) (fresh-sound rows f t)
   named-sound (c ∷ cs) i = rw (← next c cs (i .0) (i .1)) (kept-sound rows table (named cs) c (i .0) (named-sound cs (i .1)))
+
+  -- after some calls, newest first, and then others, in their order
+  holds-from : (before calls : List AnyCall) → AllAnyInRange before → AllAnyInRange calls
+      → stateAfterCalls rows (named before) calls ≡ named (reverseAux calls before)
+  unfolding stateAfterCalls
+  holds-from before [] i k = refl
+  holds-from before (c ∷ calls) i k =
+      ap (λ (s : State). stateAfterCalls rows s calls) (next c before (k .0) i) ∙ holds-from (c ∷ before) calls (k .0, i) (k .1)
+
+pub laws : Laws
+unfolding acceptedCalls openings
+laws =
+    record {
+      simulates = λ rows f calls table t i.
+          ap (λ (s : State). stateAfterCalls rows s calls) (fresh-values f t) ∙ holds-from rows table f t [] calls tt i;
+    }

@@ -5,3 +5,4 @@ pub mod Machine
 pub mod Fresh
 pub mod Holding
 pub mod Ranges
+pub mod Laws

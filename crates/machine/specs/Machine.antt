@@ -75,11 +75,11 @@ sampledEach ls ps = eachFrom 0 (λ k l. sampledPower l (numberAt ps k)) ls
 abbrev pub firedLines : Values → Watched → List Line
 firedLines v w = cond (w .fired) (lineNow v (cond (w .limiter .exceeded) 65 66) ∷ []) []
 
--- '.. then g is tried'; of more monitored values than one: '.. once if a line fired over'
+-- '.. then g is tried'; of more monitored values than one (document 02, whose 'line' is a monitored value): '.. once if a line fired over'
 abbrev pub disconnectTried : List Watched → Bool
 disconnectTried ws = any (λ w. w .fired && w .limiter .exceeded) ws
 
--- '.. then h is tried'; of more than one: '.. once if a line fired under and none remains exceeded'
+-- '.. then h is tried'; of more (document 02): '.. once if a line fired under and none remains exceeded'
 abbrev pub reconnectTried : List Watched → Bool
 reconnectTried ws = any (λ w. w .fired && not (w .limiter .exceeded)) ws && not (any (λ w. w .limiter .exceeded) ws)
 

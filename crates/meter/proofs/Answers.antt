@@ -17,7 +17,8 @@ use Rattle.machine.specs.Values.{State}
 use Rattle.machine.specs.Sound.{soundState}
 use Rattle.machine.specs.Machine.{Result, refusing, making, result}
 use Rattle.machine.proofs.Effects.{readResult}
-use Rattle.machine.proofs.Answers.{either, by-reading, afterResult}
+use Rattle.machine.specs.Laws.{afterResult}
+use Rattle.machine.proofs.Answers.{either, by-reading}
 use Rattle.steps.specs.Scalars.{valuesOf}
 use Rattle.steps.specs.Step.{resultOf}
 use Rattle.meter.specs.declared.Meter.{Meter}

@@ -18,7 +18,8 @@ use Rattle.calls.specs.Calls.{InRange, AllInRange}
 use Rattle.history.specs.OnePhase.{Fresh, asFresh, asCall}
 use Rattle.machine.specs.Sound.{soundState}
 use Rattle.machine.specs.Machine.{Change, Result, refusing, making, stateAfter}
-use Rattle.machine.proofs.Answers.{either, afterResult}
+use Rattle.machine.specs.Laws.{afterResult}
+use Rattle.machine.proofs.Answers.{either}
 use Rattle.machine.proofs.Preserved.{kept-sound, fresh-sound}
 use Rattle.machine.proofs.Number.{number-kept}
 use Rattle.steps.specs.Scalars.{soundScalars}

@@ -1,0 +1,30 @@
+-- What holds of the machine, for any number of monitored values: it simulates the account.
+use mathlib.Core.Path.{_≡_}
+use mathlib.Core.Bool.{true}
+use mathlib.Core.List.{List, [], _∷_}
+use Rattle.base.specs.Tests.{every}
+use Rattle.events.specs.Table.{EventRow, lawful}
+use Rattle.history.specs.Effects.{AnyFresh, AnyCall}
+use Rattle.history.specs.Account.{anyAccount}
+use Rattle.machine.specs.Values.{State}
+use Rattle.machine.specs.Machine.{Result, refusing, making, result, stateAfter}
+use Rattle.machine.specs.Fresh.{freshValues}
+use Rattle.machine.specs.Holding.{valuesHolding}
+use Rattle.machine.specs.Ranges.{AnySettings, AllAnyInRange}
+
+-- the state after a result: refused, it is the one that came in
+abbrev pub afterResult : State → Result → State
+afterResult s (refusing n) = s
+afterResult s (making k) = stateAfter s k
+
+-- 'Its first call gets the fresh meter, each next one the record that the call before handed back, accepted or refused': the state after calls, in
+-- their order
+unfoldable pub stateAfterCalls : List EventRow → State → List AnyCall → State
+stateAfterCalls rows s [] = s
+stateAfterCalls rows s (c ∷ cs) = stateAfterCalls rows (afterResult s (result rows (s .values) c)) cs
+
+-- of every event table whose rows are lawful
+pub record Laws : Type 0 where
+  -- after any list of calls from accepted fresh settings, refused calls among them, the state is the one that holds the account
+  pub simulates : (rows : List EventRow) (f : AnyFresh) (calls : List AnyCall) → every lawful rows ≡ true → AnySettings f → AllAnyInRange calls
+      → stateAfterCalls rows (freshValues f) calls ≡ valuesHolding (anyAccount rows f calls)
