@@ -60,7 +60,8 @@ flag-lawful = record {
 }
 
 -- x and then y were written behind p: a read at x sees y as what follows, and a read behind x sees x as what went before
-both-read : {A B C : Type 0} (f : List ℕ → ℕ → A) (g : List ℕ → ℕ → B) (h : A → B → C) (p x y r : List ℕ) {w : ℕ} → length x ≡ w → {a : A} {b : B}
+both-read : {A B C : Type 0} (f : List ℕ → ℕ → A) (g : List ℕ → ℕ → B) (h : A → B → C) (p x y r : List ℕ) {w : ℕ}
+    → length x ≡ w → {a : A} {b : B}
     → f (p ++ (x ++ (y ++ r))) (length p) ≡ a → g ((p ++ x) ++ (y ++ r)) (length (p ++ x)) ≡ b
     → h (f (p ++ ((x ++ y) ++ r)) (length p)) (g (p ++ ((x ++ y) ++ r)) (length p + w)) ≡ h a b
 both-read f g h p x y r e one two =

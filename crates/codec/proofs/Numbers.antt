@@ -2,7 +2,8 @@
 use mathlib.Core.Path.{_≡_, refl, sym, ap, _∙_}
 use mathlib.Core.List.{List, [], _∷_, _++_, append-assoc}
 use Prim.Native.Nat.{ℕ, zero, suc, _+_, _*_, _/_, _%_, _^_, _<_, _≤_}
-use native.Mathlib.Nat.{add-suc, suc-add, zero-add, add-zero, add-assoc, add-mul, mul-assoc, mul-comm, mod-one, pow-succ', div-add-mod', div-div-eq-div-mul, mul-add-div-right, mul-add-mod-self-right}
+use native.Mathlib.Nat.{add-suc, suc-add, zero-add, add-zero, add-assoc, add-mul, mul-assoc, mul-comm, mod-one, pow-succ', div-add-mod', div-div-eq-div-mul}
+use native.Mathlib.Nat.{mul-add-div-right, mul-add-mod-self-right}
 use native.Mathlib.Numerals.{add-one}
 use native.Mathlib.Omega.{arith}
 use lib.Arith.{digits-div, digits-mod, digits-lt, mod-mul}

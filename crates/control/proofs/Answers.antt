@@ -10,7 +10,8 @@ use Rattle.base.specs.Tests.{among, within}
 use Rattle.base.proofs.Bools.{by-test}
 use Rattle.base.proofs.Tests.{tests, above-leb}
 use Rattle.control.specs.declared.Request.{Request}
-use Rattle.control.specs.declared.Request.the-variants.{RemoteDisconnect, RemoteReconnect, ManualDisconnect, ManualReconnect, LocalDisconnect, LocalReconnect}
+use Rattle.control.specs.declared.Request.the-variants.{RemoteDisconnect, RemoteReconnect, ManualDisconnect, ManualReconnect, LocalDisconnect}
+use Rattle.control.specs.declared.Request.the-variants.{LocalReconnect}
 use Rattle.control.specs.declared.Decision.{Decision}
 use Rattle.control.specs.declared.Decision.the-variants.{Move, Stay, NotListed}
 use Rattle.control.specs.Table.{switchTable}

@@ -2,7 +2,8 @@
 use Prim.Native.Nat.{ℕ}
 use mathlib.Core.List.{List, [], _∷_}
 use Rattle.control.specs.declared.Request.{Request}
-use Rattle.control.specs.declared.Request.the-variants.{RemoteDisconnect, RemoteReconnect, ManualDisconnect, ManualReconnect, LocalDisconnect, LocalReconnect}
+use Rattle.control.specs.declared.Request.the-variants.{RemoteDisconnect, RemoteReconnect, ManualDisconnect, ManualReconnect, LocalDisconnect}
+use Rattle.control.specs.declared.Request.the-variants.{LocalReconnect}
 
 -- the letters of the moves
 pub data Letter : Type 0 where

@@ -2,7 +2,10 @@
 use Rattle.history.specs.Effects.{AnyFresh}
 use Rattle.history.specs.Limiter.{observations}
 use Rattle.history.specs.Laws.{LawsOf, Laws}
-use Rattle.history.proofs.Splits.{mode-split, limits-split, filter-split, clock-split, spell-split, switch-inside, switch-outside, mode-zero-decides, reconnect-decides, reconnect-outside-decides-nothing, manual-decides, other-modes-decide-nothing, others-decide-nothing, inside-decides-nothing, stands-split, register-bits, owed-split}
+use Rattle.history.proofs.Splits.{mode-split, limits-split, filter-split, clock-split, spell-split, switch-inside, switch-outside}
+use Rattle.history.proofs.Splits.{mode-zero-decides, reconnect-decides, reconnect-outside-decides-nothing, manual-decides}
+use Rattle.history.proofs.Splits.{other-modes-decide-nothing, others-decide-nothing, inside-decides-nothing, stands-split, register-bits}
+use Rattle.history.proofs.Splits.{owed-split}
 use Rattle.history.proofs.Stretches.{others-unseen, in-force, in-force-limits, stretch-split, exceeded-split, run-split}
 use Rattle.history.proofs.Openings.{openings-count-prefixes, openings-accepted, account-accepted, refused-account}
 use Rattle.history.proofs.OneMonitored.{one-monitored-value}

@@ -15,12 +15,15 @@ use Rattle.base.specs.Bits.{bit}
 use Rattle.base.specs.Tests.{among}
 use Rattle.base.proofs.Bits.{bit-number}
 use Rattle.events.specs.Line.{Line, line}
-use Rattle.history.specs.Effects.{AnyFresh, remoteDisconnect, remoteReconnect, manualDisconnect, manualReconnect, WhichRegister, Effect, sampled, requested, modeSet, limitsSet, clockSet, occurred, filterSet, bitsCleared, logCleared}
-use Rattle.history.specs.Last.{History, otherwise, given, last, modeIn, modeOf, Limits, limits, limitsIn, limitsOf, filterIn, filterOf, clockIn, samplesSince, clockOf}
+use Rattle.history.specs.Effects.{AnyFresh, remoteDisconnect, remoteReconnect, manualDisconnect, manualReconnect, WhichRegister, Effect, sampled}
+use Rattle.history.specs.Effects.{requested, modeSet, limitsSet, clockSet, occurred, filterSet, bitsCleared, logCleared}
+use Rattle.history.specs.Last.{History, otherwise, given, last, modeIn, modeOf, Limits, limits, limitsIn, limitsOf, filterIn, filterOf, clockIn}
+use Rattle.history.specs.Last.{samplesSince, clockOf}
 use Rattle.history.specs.Switch.{spellEdge, spell, decides, switchOf}
 use Rattle.history.specs.Registers.{raises, clears, stands, bitsOf}
 use Rattle.history.specs.Logs.{owedBy, clearsLog, owed}
-use Rattle.history.specs.Splits.{NonePicks, Latest, LatestElse, Ongoing, samplesIn, ClockSince, lastSet, neverSet, InSpell, owedBetween, NotCleared, OwedSince, lastClear, neverCleared}
+use Rattle.history.specs.Splits.{NonePicks, Latest, LatestElse, Ongoing, samplesIn, ClockSince, lastSet, neverSet, InSpell, owedBetween, NotCleared}
+use Rattle.history.specs.Splits.{OwedSince, lastClear, neverCleared}
 use Rattle.history.proofs.Lists.{each-first, each-rest, each-only, latest-or-none, kept, latest-split, ongoing-split}
 
 some≢none : {A : Type 0} {a : A} → Path (Option A) (some a) none → ⊥
@@ -208,7 +211,8 @@ reconnect-outside-decides-nothing f h n = rw (outside h n)
 pub mode-zero-decides : (f : AnyFresh) (h : History) → decides f (modeSet 0) h ≡ some 1
 mode-zero-decides f h = refl
 
-pub reconnect-decides : (f : AnyFresh) (h : History) → InSpell h → decides f (requested remoteReconnect) h ≡ some (cond (among (2 ∷ 4 ∷ []) (modeOf f h)) 1 2)
+pub reconnect-decides : (f : AnyFresh) (h : History) → InSpell h
+    → decides f (requested remoteReconnect) h ≡ some (cond (among (2 ∷ 4 ∷ []) (modeOf f h)) 1 2)
 reconnect-decides f h i = rw (spell-split h .1 i)
 
 -- 'manual reconnect' gives 1, 'manual disconnect' 2
@@ -244,7 +248,8 @@ others-decide-nothing f (bitsCleared x n) h s m r d c = refl
 others-decide-nothing f (logCleared n) h s m r d c = refl
 
 -- 'Calls inside a spell decide nothing'
-pub inside-decides-nothing : (f : AnyFresh) (e : Effect) (h : History) → InSpell h → e ≢ requested remoteReconnect → e ≢ modeSet 0 → decides f e h ≡ none
+pub inside-decides-nothing : (f : AnyFresh) (e : Effect) (h : History) → InSpell h → e ≢ requested remoteReconnect → e ≢ modeSet 0
+    → decides f e h ≡ none
 inside-decides-nothing f (sampled p) h i r z = rw (spell-split h .1 i)
 inside-decides-nothing f (requested remoteDisconnect) h i r z = refl
 inside-decides-nothing f (requested remoteReconnect) h i r z = absurd (r refl)

@@ -10,7 +10,8 @@ use lib.IntN.{ℤ}
 use lib.ListN.{length, take, drop, replicate}
 use Rattle.history.specs.Effects.{AnyFresh, Effect, sampled, requested, modeSet, limitsSet, clockSet, occurred, filterSet, bitsCleared, logCleared}
 use Rattle.history.specs.Last.{History, otherwise, given, last, limitsOf}
-use Rattle.history.specs.Limiter.{Observation, setting, judged, durationOf, duration, sinceSetting, allAre, stretchEnds, exceeded, trailing, observations, exceededOf, runOf}
+use Rattle.history.specs.Limiter.{Observation, setting, judged, durationOf, duration, sinceSetting, allAre, stretchEnds, exceeded, trailing}
+use Rattle.history.specs.Limiter.{observations, exceededOf, runOf}
 use Rattle.history.specs.Splits.{LatestElse, InForce, FullStretch, stretchAt, Trailing, all, broken}
 use Rattle.history.proofs.Lists.{latest-split}
 
@@ -61,7 +62,8 @@ duration-is b [] o u os = refl
 duration-is b (x ∷ xs) o u os = duration-is b xs o u os
 
 -- the durations in force are those last accepted, else fresh
-durations-last : (f : AnyFresh) (k : ℕ) (h : History) (b : Bool) → duration b (observations f k h) ≡ durationOf b (limitsOf f h .over) (limitsOf f h .under)
+durations-last : (f : AnyFresh) (k : ℕ) (h : History) (b : Bool)
+    → duration b (observations f k h) ≡ durationOf b (limitsOf f h .over) (limitsOf f h .under)
 unfolding observations duration last
 durations-last f k [] b = refl
 durations-last f k (sampled ps ∷ h) b = durations-last f k h b

@@ -10,8 +10,10 @@ use lib.ListN.{getD}
 use Rattle.events.specs.Line.{Line, line}
 use Rattle.events.specs.Table.{builtIn}
 use Rattle.calls.specs.declared.Call.{Call}
-use Rattle.calls.specs.declared.Call.the-variants.{Sample, RemoteDisconnect, RemoteReconnect, ManualDisconnect, ManualReconnect, SetMode, SetLimiter, SetClock, Event, SetAlarmFilter, SetErrorFilter, ClearAlarms, ClearErrors, ClearLog, Script}
-use Rattle.history.specs.Effects.{remoteDisconnect, manualDisconnect, manualReconnect, AnyCall, sample, request, setLimiter, sampled, requested, reading}
+use Rattle.calls.specs.declared.Call.the-variants.{Sample, RemoteDisconnect, RemoteReconnect, ManualDisconnect, ManualReconnect, SetMode, SetLimiter}
+use Rattle.calls.specs.declared.Call.the-variants.{SetClock, Event, SetAlarmFilter, SetErrorFilter, ClearAlarms, ClearErrors, ClearLog, Script}
+use Rattle.history.specs.Effects.{remoteDisconnect, manualDisconnect, manualReconnect, AnyCall, sample, request, setLimiter, sampled, requested}
+use Rattle.history.specs.Effects.{reading}
 use Rattle.history.specs.Switch.{decides}
 use Rattle.history.specs.Account.{AnyAccount, accountOf, anyAccount}
 use Rattle.history.specs.OnePhase.{Fresh, asFresh}
@@ -114,7 +116,8 @@ pub record Histories : Type 0 where
   -- a remote reconnect that ends no spell decides nothing
   pub reconnect-outside : switchAfterEach (fresh 1 3 1 1 1000) [] (RemoteReconnect ∷ ManualDisconnect ∷ RemoteReconnect ∷ []) ≡ 1 ∷ 2 ∷ 2 ∷ []
   -- the mode at the time of the call counts, and a change of mode leaves the switch
-  pub mode-at-the-call : switchAfterEach (fresh 1 3 1 1 1000) [] (RemoteDisconnect ∷ SetMode 2 ∷ RemoteReconnect ∷ SetMode 3 ∷ []) ≡ 0 ∷ 0 ∷ 1 ∷ 1 ∷ []
+  pub mode-at-the-call : switchAfterEach (fresh 1 3 1 1 1000) [] (RemoteDisconnect ∷ SetMode 2 ∷ RemoteReconnect ∷ SetMode 3 ∷ [])
+      ≡ 0 ∷ 0 ∷ 1 ∷ 1 ∷ []
   -- 'Inside one the switch is 0'
   pub spell-inside :
       switchAfterEach (fresh 5 3 1 1 1000) []

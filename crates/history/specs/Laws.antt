@@ -14,7 +14,8 @@ use Rattle.base.specs.Bits.{bit}
 use Rattle.base.specs.Tests.{among}
 use Rattle.events.specs.Line.{Line, line}
 use Rattle.events.specs.Table.{EventRow}
-use Rattle.history.specs.Effects.{AnyFresh, AnyCall, remoteReconnect, manualDisconnect, manualReconnect, WhichRegister, Effect, sampled, requested, modeSet, limitsSet, refused, reading}
+use Rattle.history.specs.Effects.{AnyFresh, AnyCall, remoteReconnect, manualDisconnect, manualReconnect, WhichRegister, Effect, sampled, requested}
+use Rattle.history.specs.Effects.{modeSet, limitsSet, refused, reading}
 use Rattle.history.specs.Last.{History, given, modeIn, modeOf, Limits, limits, limitsIn, limitsOf, filterIn, filterOf, clockOf}
 use Rattle.history.specs.Limiter.{Observation, stretchEnds, firesOver, firesUnder, observations, exceededOf, runOf}
 use Rattle.history.specs.Switch.{spell, decides, switchOf}

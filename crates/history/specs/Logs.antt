@@ -6,7 +6,9 @@ use mathlib.Core.List.{List, [], _∷_, _++_}
 use lib.Dec.{eqb}
 use Rattle.base.specs.Tests.{gathered}
 use Rattle.events.specs.Line.{Line, line, newest}
-use Rattle.history.specs.Effects.{AnyFresh, RequestCall, remoteDisconnect, remoteReconnect, manualDisconnect, manualReconnect, WhichRegister, alarms, errors, Effect, sampled, requested, modeSet, limitsSet, clockSet, occurred, filterSet, bitsCleared, logCleared}
+use Rattle.history.specs.Effects.{AnyFresh, RequestCall, remoteDisconnect, remoteReconnect, manualDisconnect, manualReconnect, WhichRegister}
+use Rattle.history.specs.Effects.{alarms, errors, Effect, sampled, requested, modeSet, limitsSet, clockSet, occurred, filterSet, bitsCleared}
+use Rattle.history.specs.Effects.{logCleared}
 use Rattle.history.specs.Last.{History, clockOf}
 use Rattle.history.specs.Limiter.{firesOver, firesUnder, monitoredValues, observations}
 use Rattle.history.specs.Switch.{switchOf}

@@ -7,8 +7,10 @@ use lib.ListN.{getD}
 use Rattle.events.specs.Line.{Line}
 use Rattle.events.specs.Table.{EventRow}
 use Rattle.calls.specs.declared.Call.{Call}
-use Rattle.calls.specs.declared.Call.the-variants.{Sample, RemoteDisconnect, RemoteReconnect, ManualDisconnect, ManualReconnect, SetMode, SetLimiter, SetClock, Event, SetAlarmFilter, SetErrorFilter, ClearAlarms, ClearErrors, ClearLog, Script}
-use Rattle.history.specs.Effects.{AnyFresh, remoteDisconnect, remoteReconnect, manualDisconnect, manualReconnect, alarms, errors, AnyCall, sample, request, setMode, setLimiter, setClock, event, setFilter, clearBits, clearLog, script}
+use Rattle.calls.specs.declared.Call.the-variants.{Sample, RemoteDisconnect, RemoteReconnect, ManualDisconnect, ManualReconnect, SetMode, SetLimiter}
+use Rattle.calls.specs.declared.Call.the-variants.{SetClock, Event, SetAlarmFilter, SetErrorFilter, ClearAlarms, ClearErrors, ClearLog, Script}
+use Rattle.history.specs.Effects.{AnyFresh, remoteDisconnect, remoteReconnect, manualDisconnect, manualReconnect, alarms, errors, AnyCall, sample}
+use Rattle.history.specs.Effects.{request, setMode, setLimiter, setClock, event, setFilter, clearBits, clearLog, script}
 use Rattle.history.specs.Account.{MonitoredValue, AnyAccount, anyAccount}
 
 -- 'Fresh takes mode, threshold, Over, Under, clock ..'; the account is meant for settings that fresh accepts

@@ -12,7 +12,8 @@ use lib.ListN.{replicate}
 use Rattle.base.specs.Numbers.{held}
 use Rattle.events.specs.Line.{Line, line}
 use Rattle.events.specs.Table.{EventRow}
-use Rattle.history.specs.Effects.{AnyFresh, AnyCall, remoteDisconnect, remoteReconnect, sampled, requested, modeSet, limitsSet, clockSet, occurred, filterSet, bitsCleared, logCleared}
+use Rattle.history.specs.Effects.{AnyFresh, AnyCall, remoteDisconnect, remoteReconnect, sampled, requested, modeSet, limitsSet, clockSet, occurred}
+use Rattle.history.specs.Effects.{filterSet, bitsCleared, logCleared}
 use Rattle.history.specs.Last.{History, given, clockIn, clockOf}
 use Rattle.history.specs.Limiter.{Observation, setting, judged, durationOf, stretchEnds}
 use Rattle.history.specs.Logs.{owedBy}

@@ -9,7 +9,8 @@ use Rattle.listing.specs.declared.ListingEnd.{ListingEnd}
 use Rattle.listing.specs.Listing.{afterFirst, afterBlock, afterBlocks, Blocks}
 use Rattle.listing.specs.Laws.{BlockRead, BlocksRead, InputRead}
 
-blocks-snoc : (p : Progress) (ss : List (List ℕ)) (s : List ℕ) → Blocks p ss → afterBlocks p ss .more ≡ true → length s ≤ 4095 → Blocks p (ss ++ (s ∷ []))
+blocks-snoc : (p : Progress) (ss : List (List ℕ)) (s : List ℕ) → Blocks p ss → afterBlocks p ss .more ≡ true → length s ≤ 4095
+    → Blocks p (ss ++ (s ∷ []))
 unfolding Blocks afterBlocks
 blocks-snoc p [] s h e fits = (e, (fits, tt))
 blocks-snoc p (t ∷ ss) s h e fits = (h .0, (h .1 .0, blocks-snoc (afterBlock p t) ss s (h .1 .1) e fits))
@@ -40,5 +41,6 @@ led-on before led more read =
     )
 
 -- the first bytes, and what follows them
-pub input-read : (first : List ℕ) → length first ≤ 21 → {p : Progress} → p ≡ afterFirst first → {r : ListingEnd} → BlocksRead p r → InputRead r
+pub input-read : (first : List ℕ) → length first ≤ 21 → {p : Progress} → p ≡ afterFirst first → {r : ListingEnd} → BlocksRead p r
+    → InputRead r
 input-read first fits e {r} rest = record { first = first; fits = fits; rest = subst (λ (p : Progress). BlocksRead p r) e rest }

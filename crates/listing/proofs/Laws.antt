@@ -100,7 +100,8 @@ module _ (first rest : List ℕ) (size : length first ≡ 21) where
       record-listed (first ++ rest) (firstIn first) (first-inside first rest (omega arith)) (omega (arith, joined-size))
 
 -- by what the first record is: of kind 0 or not, accepted or not
-by-first : (kind accepted : Bool) (line bad rest texts : List ℕ) → (kind && accepted ≡ true → texts ≡ rest) → (kind && accepted ≡ false → texts ≡ [])
+by-first : (kind accepted : Bool) (line bad rest texts : List ℕ) → (kind && accepted ≡ true → texts ≡ rest)
+    → (kind && accepted ≡ false → texts ≡ [])
     → cond kind line bad ++ texts ≡ cond kind (line ++ cond accepted rest []) bad
 by-first true true line bad rest texts on off = rw (on refl)
 by-first true false line bad rest texts on off = rw (off refl)

@@ -46,7 +46,8 @@ module _ (s : List ℕ) {r : Command} (read : r ≡ firstIn s) where
   unfolding firstText
   bad-first long other = rw (le-ltb (length s) 21 long, ne-eqb (firstIn s .kind) 0 (λ z. other (kind-read ∙ z)))
 
-  pub line-first : {o : Outcome} {line : ListingLine} → 21 ≤ length s → r .kind ≡ 0 → o ≡ startOf r → line ≡ lineOf 1 o → shown line ≡ firstText s
+  pub line-first : {o : Outcome} {line : ListingLine} → 21 ≤ length s → r .kind ≡ 0 → o ≡ startOf r → line ≡ lineOf 1 o
+      → shown line ≡ firstText s
   unfolding firstText
   line-first long zero made drawn =
       rw (le-ltb (length s) 21 long, eq-eqb (firstIn s .kind) 0 (sym kind-read ∙ zero), drawn, made, read)
@@ -56,7 +57,8 @@ unfolding firstText
 short-first s h = rw (lt-ltb (length s) 21 h)
 
 -- what was put is the text of the first record, which fits
-pub first-put : (text : List ℕ) {xs ys : List ℕ} → xs ≡ ys → 40 ≤ length text → length xs ≤ 40 → {len : ℕ} {text′ : List ℕ} → PutBehind text 0 xs len text′
+pub first-put : (text : List ℕ) {xs ys : List ℕ} → xs ≡ ys → 40 ≤ length text → length xs ≤ 40 → {len : ℕ} {text′ : List ℕ}
+    → PutBehind text 0 xs len text′
     → PutAll text ys len text′
 first-put text {xs} {ys} e room small {len} {text′} put =
     let size : length text′ ≡ length text = ap length (put .1) ∙ length-sets text 0 xs in (
@@ -70,7 +72,8 @@ pub block-progress : (p : Progress) (s : List ℕ) {m : Meter} → m ≡ meterAf
     → _≡_ {A = Progress} (record { meter = m; position = afterBlock p s .position; more = afterBlock p s .more }) (afterBlock p s)
 block-progress p s made = rw made
 
-pub block-put : (p : Progress) (s text : List ℕ) {len : ℕ} {text′ : List ℕ} {len′ : ℕ} {text″ : List ℕ} → 7806 ≤ length text → len ≤ 7800
+pub block-put : (p : Progress) (s text : List ℕ) {len : ℕ} {text′ : List ℕ} {len′ : ℕ} {text″ : List ℕ} → 7806 ≤ length text
+    → len ≤ 7800
     → PutAtStart text (linesIn (p .position) (p .meter) s) len text′
     → PutBehind text′ len (cutLine (length s)) len′ text″ → PutAll text (blockText p s) len′ text″
 unfolding blockText

@@ -19,9 +19,12 @@ use Rattle.control.specs.declared.Decision.the-variants.{Move, Stay, NotListed}
 use Rattle.control.specs.Table.{SwitchRow, switchTable}
 use Rattle.control.specs.Control.{lists, orStay, decision}
 use Rattle.calls.specs.declared.Answer.{Answer}
-use Rattle.history.specs.Effects.{RequestCall, remoteDisconnect, remoteReconnect, manualDisconnect, manualReconnect, AnyCall, sample, request as requestCall, setMode, setLimiter, setClock, event, setFilter, clearBits, clearLog, script, Effect, requested, listedModes, Reading, refused, accepted, readRequest, readLimits, readEvent, reading}
+use Rattle.history.specs.Effects.{RequestCall, remoteDisconnect, remoteReconnect, manualDisconnect, manualReconnect, AnyCall, sample}
+use Rattle.history.specs.Effects.{request as requestCall, setMode, setLimiter, setClock, event, setFilter, clearBits, clearLog, script, Effect, requested}
+use Rattle.history.specs.Effects.{listedModes, Reading, refused, accepted, readRequest, readLimits, readEvent, reading}
 use Rattle.machine.specs.Values.{Values, State}
-use Rattle.machine.specs.Machine.{Result, refusing, making, answeredWith, moving, decided, answering, requestResult, modeResult, limiterResult, occurring, eventResult, clearLogResult, scriptResult, requestOf, result, Change, stateAfter}
+use Rattle.machine.specs.Machine.{Result, refusing, making, answeredWith, moving, decided, answering, requestResult, modeResult, limiterResult}
+use Rattle.machine.specs.Machine.{occurring, eventResult, clearLogResult, scriptResult, requestOf, result, Change, stateAfter}
 use Rattle.machine.specs.Settings.{limitsAnswer}
 use Rattle.machine.specs.Ranges.{AnyInRange}
 use Rattle.machine.proofs.Effects.{readResult, Proper}
@@ -88,7 +91,8 @@ module _ (s : Values) where
       go (decided s (requestOf q)) (among (listedModes q) (s .control .mode)) refl
       (rows-listed switchTable (requestOf q) (s .control .mode) _ ∙ table-lists q (s .control .mode))
     where
-      go : (d : Decision) (b : Bool) → d ≡ decided s (requestOf q) → listed d ≡ b → answering s d ≡ readResult s (cond b (accepted (requested q)) (refused 2))
+      go : (d : Decision) (b : Bool) → d ≡ decided s (requestOf q) → listed d ≡ b
+          → answering s d ≡ readResult s (cond b (accepted (requested q)) (refused 2))
       go (Move t c o) true e h = ap (λ (x : Decision). making (moving s [] x)) e
       go Stay true e h = ap (λ (x : Decision). making (moving s [] x)) e
       go NotListed false e h = refl

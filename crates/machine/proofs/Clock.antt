@@ -2,7 +2,8 @@
 use native.Mathlib.Omega.{arith}
 use mathlib.Core.Path.{_≡_, ap, _∙_}
 use mathlib.Core.List.{_∷_}
-use Rattle.history.specs.Effects.{AnyFresh, alarms, errors, Effect, sampled, requested, modeSet, limitsSet, clockSet, occurred, filterSet, bitsCleared, logCleared}
+use Rattle.history.specs.Effects.{AnyFresh, alarms, errors, Effect, sampled, requested, modeSet, limitsSet, clockSet, occurred, filterSet, bitsCleared}
+use Rattle.history.specs.Effects.{logCleared}
 use Rattle.history.specs.Last.{History, last, samplesSince, modeOf, clockOf}
 use Rattle.machine.specs.Values.{Values}
 use Rattle.machine.proofs.Effects.{effectResult, Proper}

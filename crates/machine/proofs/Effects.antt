@@ -14,14 +14,16 @@ use Rattle.control.specs.declared.Control.{Control}
 use Rattle.control.specs.Control.{modeDecision, inMode}
 use Rattle.limiter.specs.declared.Limiter.{Limiter}
 use Rattle.calls.specs.Calls.{Word}
-use Rattle.history.specs.Effects.{AnyFresh, WhichRegister, alarms, errors, Effect, sampled, requested, modeSet, limitsSet, clockSet, occurred, filterSet, bitsCleared, logCleared, listedModes, Reading, refused, accepted}
+use Rattle.history.specs.Effects.{AnyFresh, WhichRegister, alarms, errors, Effect, sampled, requested, modeSet, limitsSet, clockSet, occurred, filterSet}
+use Rattle.history.specs.Effects.{bitsCleared, logCleared, listedModes, Reading, refused, accepted}
 use Rattle.history.specs.Last.{History, modeOf, limitsOf, thresholdOf, filterOf, clockOf}
 use Rattle.history.specs.Limiter.{monitoredValues, exceededOf, runOf}
 use Rattle.history.specs.Switch.{switchOf}
 use Rattle.history.specs.Registers.{bitsOf}
 use Rattle.history.specs.Account.{opens}
 use Rattle.machine.specs.Values.{Values, withControl, withLimiters}
-use Rattle.machine.specs.Machine.{Change, Result, refusing, making, owing, lineNow, moving, decided, requestOf, sampleResult, settingsEach, clockResult, reported, filterResult, clearResult}
+use Rattle.machine.specs.Machine.{Change, Result, refusing, making, owing, lineNow, moving, decided, requestOf, sampleResult, settingsEach}
+use Rattle.machine.specs.Machine.{clockResult, reported, filterResult, clearResult}
 
 -- what an accepted call makes of the values
 abbrev pub effectResult : Values → Effect → Change

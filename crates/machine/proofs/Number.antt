@@ -13,9 +13,11 @@ use Rattle.control.specs.declared.Decision.{Decision}
 use Rattle.control.specs.declared.Decision.the-variants.{Move, Stay, NotListed}
 use Rattle.control.specs.Control.{modeDecision, inMode}
 use Rattle.limiter.specs.declared.Watched.{Watched}
-use Rattle.history.specs.Effects.{alarms, errors, AnyCall, Effect, sampled, requested, modeSet, limitsSet, clockSet, occurred, filterSet, bitsCleared, logCleared, Reading, refused, accepted, reading}
+use Rattle.history.specs.Effects.{alarms, errors, AnyCall, Effect, sampled, requested, modeSet, limitsSet, clockSet, occurred, filterSet, bitsCleared}
+use Rattle.history.specs.Effects.{logCleared, Reading, refused, accepted, reading}
 use Rattle.machine.specs.Values.{Values, State, withControl, withLimiters, withClock}
-use Rattle.machine.specs.Machine.{moving, decided, sampledEach, firedLines, disconnectTried, reconnectTried, afterSample, sampleResult, requestOf, result}
+use Rattle.machine.specs.Machine.{moving, decided, sampledEach, firedLines, disconnectTried, reconnectTried, afterSample, sampleResult, requestOf}
+use Rattle.machine.specs.Machine.{result}
 use Rattle.machine.proofs.Effects.{effectResult, readResult}
 use Rattle.machine.specs.Laws.{afterResult}
 use Rattle.machine.proofs.Answers.{by-reading}

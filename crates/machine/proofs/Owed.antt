@@ -9,7 +9,8 @@ use borrow.Author.Tests.{ne-eqb}
 use Rattle.base.specs.Numbers.{held}
 use Rattle.events.specs.Line.{Line, isLog}
 use Rattle.logs.proofs.Numbers.{log-least}
-use Rattle.history.specs.Effects.{AnyFresh, alarms, errors, Effect, sampled, requested, modeSet, limitsSet, clockSet, occurred, filterSet, bitsCleared, logCleared}
+use Rattle.history.specs.Effects.{AnyFresh, alarms, errors, Effect, sampled, requested, modeSet, limitsSet, clockSet, occurred, filterSet, bitsCleared}
+use Rattle.history.specs.Effects.{logCleared}
 use Rattle.history.specs.Last.{History, last, samplesSince, modeOf}
 use Rattle.history.specs.Logs.{when, moves, owedBy, clearsLog}
 use Rattle.machine.specs.Values.{Values}

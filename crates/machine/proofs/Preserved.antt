@@ -28,12 +28,15 @@ use Rattle.limiter.proofs.Watching.{laws as limiter-laws, settings-sound}
 use Rattle.logs.specs.Lists.{emptied, ownLines, soundLists}
 use Rattle.logs.proofs.Kept.{appended-sound, emptied-sound}
 use Rattle.calls.specs.declared.Answer.{Answer}
-use Rattle.history.specs.Effects.{AnyFresh, alarms, errors, AnyCall, sample, request as requestCall, setMode, setLimiter, setClock, event, setFilter, clearBits, clearLog, script}
+use Rattle.history.specs.Effects.{AnyFresh, alarms, errors, AnyCall, sample, request as requestCall, setMode, setLimiter, setClock, event, setFilter}
+use Rattle.history.specs.Effects.{clearBits, clearLog, script}
 use Rattle.history.specs.Last.{numberAt}
 use Rattle.machine.specs.Values.{Values, State, withControl, withLimiters}
 use Rattle.machine.specs.Settings.{limitsAnswer}
 use Rattle.machine.specs.Sound.{soundValues, soundState}
-use Rattle.machine.specs.Machine.{Change, Result, refusing, making, owing, answeredWith, lineNow, moving, decided, requestOf, answering, requestResult, sampledEach, firedLines, disconnectTried, reconnectTried, afterSample, sampleResult, modeResult, settingsEach, limiterResult, occurring, eventResult, clearLogResult, scriptResult, result}
+use Rattle.machine.specs.Machine.{Change, Result, refusing, making, owing, answeredWith, lineNow, moving, decided, requestOf, answering}
+use Rattle.machine.specs.Machine.{requestResult, sampledEach, firedLines, disconnectTried, reconnectTried, afterSample, sampleResult, modeResult}
+use Rattle.machine.specs.Machine.{settingsEach, limiterResult, occurring, eventResult, clearLogResult, scriptResult, result}
 use Rattle.machine.specs.Fresh.{freshLimiter, freshValues}
 use Rattle.machine.specs.Ranges.{AnySettings, AnyInRange}
 use Rattle.machine.proofs.Lists.{every-number}
@@ -64,14 +67,17 @@ clear-listed : (n : ℕ) → among (besides n) 255 ≡ true
 unfolding besides among
 clear-listed n = go (eqb n 1) (eqb n 3)
   where
-    go : (a b : Bool) → among (cond a (4 ∷ 5 ∷ 10 ∷ 11 ∷ 255 ∷ []) (cond b (59 ∷ 60 ∷ 61 ∷ 62 ∷ 63 ∷ 64 ∷ 65 ∷ 66 ∷ 67 ∷ 69 ∷ 255 ∷ []) (255 ∷ []))) 255 ≡ true
+    go : (a b : Bool)
+        → among (cond a (4 ∷ 5 ∷ 10 ∷ 11 ∷ 255 ∷ []) (cond b (59 ∷ 60 ∷ 61 ∷ 62 ∷ 63 ∷ 64 ∷ 65 ∷ 66 ∷ 67 ∷ 69 ∷ 255 ∷ []) (255 ∷ []))) 255
+        ≡ true
     go true b = refl
     go false true = refl
     go false false = refl
 
 -- ---- the limiters
 -- what keeps each entry sound keeps the list sound
-every-map : {A B : Type 0} (p : A → Bool) (g : A → B) (q : B → Bool) (xs : List A) → ((x : A) → p x ≡ true → q (g x) ≡ true) → every p xs ≡ true
+every-map : {A B : Type 0} (p : A → Bool) (g : A → B) (q : B → Bool) (xs : List A) → ((x : A) → p x ≡ true → q (g x) ≡ true)
+    → every p xs ≡ true
     → every q (map g xs) ≡ true
 unfolding every
 every-map p g q [] k h = refl
@@ -119,7 +125,8 @@ SoundResult rows (making k) = SoundChange rows k
 
 module _ (rows : List EventRow) where
   -- a move of the switch table, behind lines that log 3 may hold
-  moving-sound : (s : Values) (xs : List Line) (q : Request) → soundValues s ≡ true → ownLines rows 3 xs ≡ true → SoundChange rows (moving s xs (decided s q))
+  moving-sound : (s : Values) (xs : List Line) (q : Request) → soundValues s ≡ true → ownLines rows 3 xs ≡ true
+      → SoundChange rows (moving s xs (decided s q))
   unfolding soundValues
   moving-sound s xs q h o = go (decided s q) refl
     where
@@ -238,7 +245,8 @@ module _ (rows : List EventRow) where
       either (SoundResult rows) (eqb n 1) (λ a. request-sound s request.RemoteDisconnect h)
       (λ a. either (SoundResult rows) (eqb n 2) (λ b. request-sound s request.RemoteReconnect h) (λ b. tt))
 
-  pub result-sound : every lawful rows ≡ true → (s : Values) (c : AnyCall) → AnyInRange c → soundValues s ≡ true → SoundResult rows (result rows s c)
+  pub result-sound : every lawful rows ≡ true → (s : Values) (c : AnyCall) → AnyInRange c → soundValues s ≡ true
+      → SoundResult rows (result rows s c)
   unfolding soundValues besides among every
   result-sound all s (sample ps) i h = sample-sound s ps h
   result-sound all s (requestCall q) i h = request-sound s (requestOf q) h
@@ -273,7 +281,8 @@ module _ (rows : List EventRow) (all : every lawful rows ≡ true) where
   unfolding soundState
   values-sound v e = and-left (soundValues (v .values)) (soundLists rows (v .logs)) e
 
-  pub kept-sound : (v : State) (c : AnyCall) → AnyInRange c → soundState rows v ≡ true → soundState rows (afterResult v (result rows (v .values) c)) ≡ true
+  pub kept-sound : (v : State) (c : AnyCall) → AnyInRange c → soundState rows v ≡ true
+      → soundState rows (afterResult v (result rows (v .values) c)) ≡ true
   kept-sound v c i e = after-sound rows v (result rows (v .values) c) e (result-sound rows all (v .values) c i (values-sound v e))
 
 -- ---- the fresh meter

@@ -8,7 +8,8 @@ use mathlib.Core.Option.{Option, none, some}
 use lib.Dec.{leb}
 use Rattle.base.specs.Tests.{within}
 use Rattle.calls.specs.Calls.{Word}
-use Rattle.history.specs.Effects.{AnyFresh, WhichRegister, alarms, errors, Effect, sampled, requested, modeSet, limitsSet, clockSet, occurred, filterSet, bitsCleared, logCleared}
+use Rattle.history.specs.Effects.{AnyFresh, WhichRegister, alarms, errors, Effect, sampled, requested, modeSet, limitsSet, clockSet, occurred, filterSet}
+use Rattle.history.specs.Effects.{bitsCleared, logCleared}
 use Rattle.history.specs.Last.{History, last, otherwise, modeIn, modeOf, Limits, limits, limitsIn, limitsOf, filterIn, filterOf}
 use Rattle.machine.specs.Ranges.{AnySettings}
 use Rattle.machine.proofs.Effects.{Proper, AllProper, none as noCall, more}

@@ -16,7 +16,8 @@ use Rattle.registers.specs.declared.Register.{Register}
 use Rattle.registers.specs.Register.{raised, cleared, withFilter}
 use Rattle.events.specs.Table.{EventRow, lookup, mask, lawful}
 use Rattle.events.proofs.Rule.{row-alarm, row-error}
-use Rattle.history.specs.Effects.{AnyFresh, WhichRegister, alarms, errors, Effect, sampled, requested, modeSet, limitsSet, clockSet, occurred, filterSet, bitsCleared, logCleared}
+use Rattle.history.specs.Effects.{AnyFresh, WhichRegister, alarms, errors, Effect, sampled, requested, modeSet, limitsSet, clockSet, occurred, filterSet}
+use Rattle.history.specs.Effects.{bitsCleared, logCleared}
 use Rattle.history.specs.Last.{History, last, modeOf, filterOf}
 use Rattle.history.specs.Registers.{bitIn, isBit, stands}
 use Rattle.machine.specs.Values.{Values, withControl, withLimiters}
@@ -40,7 +41,8 @@ eqb-comm a b = go (eqb a b) refl
 clear-number : (p q : ℕ → Bool) → bitAnd (number 32 p) (inverse (number 32 q)) ≡ number 32 (λ b. not (q b) && p b)
 clear-number p q = clear-by p q ∙ number-ext 32 (λ b. and-comm (p b) (not (q b)))
 
-raise-number : (p q : ℕ → Bool) (n : ℕ) → Word n → bitOr (number 32 p) (bitAnd (number 32 q) (inverse n)) ≡ number 32 (λ b. q b && not (bit n b) || p b)
+raise-number : (p q : ℕ → Bool) (n : ℕ) → Word n
+    → bitOr (number 32 p) (bitAnd (number 32 q) (inverse n)) ≡ number 32 (λ b. q b && not (bit n b) || p b)
 raise-number p q n w =
     ap (λ (m : ℕ). bitOr (number 32 p) (bitAnd (number 32 q) (inverse m))) (sym (number-bits 32 n (omega arith)))
     ∙ raise-by p q (bit n)
@@ -73,7 +75,8 @@ same-side alarms s t a b = a
 same-side errors s t a b = b
 
 module _ (x : WhichRegister) (h : History) (r : Register) (same : r ≡ registerOf x h) where
-  clear-side : (m : ℕ) (q : ℕ → Bool) → m ≡ number 32 q → cleared r m ≡ record { bits = number 32 (λ b. not (q b) && stands x b h); filter = filterOf x h }
+  clear-side : (m : ℕ) (q : ℕ → Bool) → m ≡ number 32 q
+      → cleared r m ≡ record { bits = number 32 (λ b. not (q b) && stands x b h); filter = filterOf x h }
   clear-side m q e = ap₂ cleared same e ∙ (λ i. record { bits = clear-number (λ b. stands x b h) q i; filter = filterOf x h })
 
   raise-side : (w : EventRow) → lawful w ≡ true → Word (filterOf x h) → raised r (mask (bitIn x w)) ≡ registerOf x (occurred w ∷ h)
@@ -83,7 +86,8 @@ module _ (x : WhichRegister) (h : History) (r : Register) (same : r ≡ register
       ∙ (λ i. record { bits = raise-number (λ b. stands x b h) (isBit (bitIn x w)) (filterOf x h) g i; filter = filterOf x h })
 
 module _ (f : AnyFresh) (h : History) (s : Values) (all : AllProper f h) where
-  register-part : (x : WhichRegister) (e : Effect) → Proper (modeOf f h) e → sideOf x s ≡ registerOf x h → sideOf x (otherParts s e) ≡ registerOf x (e ∷ h)
+  register-part : (x : WhichRegister) (e : Effect) → Proper (modeOf f h) e → sideOf x s ≡ registerOf x h
+      → sideOf x (otherParts s e) ≡ registerOf x (e ∷ h)
   unfolding last stands
   register-part x (sampled p) g same = same-side x (otherParts s (sampled p)) s refl refl ∙ same
   register-part x (requested q) g same = same

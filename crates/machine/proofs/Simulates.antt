@@ -123,7 +123,8 @@ module _ (rows : List EventRow) (table : every lawful rows ≡ true) (f : AnyFre
       go (accepted x) e a = more (proper rows table m c x (i .0) e) a
 
   -- one more call, accepted or refused
-  pub next : (c : AnyCall) (cs : List AnyCall) → AnyInRange c → AllAnyInRange cs → afterResult (named cs) (result rows (named cs .values) c) ≡ named (c ∷ cs)
+  pub next : (c : AnyCall) (cs : List AnyCall) → AnyInRange c → AllAnyInRange cs
+      → afterResult (named cs) (result rows (named cs .values) c) ≡ named (c ∷ cs)
   unfolding acceptedCalls openings
   next c cs i k = rw (by-reading rows (named cs .values) c) (go (reading rows (modeOf f h) c) refl)
     where

@@ -16,7 +16,8 @@ use Rattle.limiter.specs.declared.Watched.{Watched}
 use Rattle.limiter.specs.Limiter.{watching, watched, sampledPower, withSettings}
 use Rattle.history.specs.Effects.{AnyFresh, sampled, requested, modeSet, limitsSet, clockSet, occurred, filterSet, bitsCleared, logCleared}
 use Rattle.history.specs.Last.{History, Limits, last, limitsOf, thresholdOf, numberAt}
-use Rattle.history.specs.Limiter.{Observation, judged, durationOf, duration, sinceSetting, allAre, exceeded, trailing, monitoredValues, observations, exceededOf}
+use Rattle.history.specs.Limiter.{Observation, judged, durationOf, duration, sinceSetting, allAre, exceeded, trailing, monitoredValues, observations}
+use Rattle.history.specs.Limiter.{exceededOf}
 use Rattle.machine.specs.Machine.{sampledEach, settingsEach}
 use Rattle.machine.specs.Ranges.{AnySettings}
 use Rattle.machine.proofs.Lists.{each-numbered}
@@ -29,7 +30,8 @@ duration-positive l p true = leb-true 1 (l .over) (and-left (leb 1 (l .over)) (l
 duration-positive l p false = leb-true 1 (l .under) (and-left (leb 1 (l .under)) (leb (l .under) 86400) (p .1))
 
 -- the durations that the observations tell are those of the limits in force
-observed-duration : (f : AnyFresh) (k : ℕ) (h : History) (b : Bool) → duration b (observations f k h) ≡ durationOf b (limitsOf f h .over) (limitsOf f h .under)
+observed-duration : (f : AnyFresh) (k : ℕ) (h : History) (b : Bool)
+    → duration b (observations f k h) ≡ durationOf b (limitsOf f h .over) (limitsOf f h .under)
 unfolding observations duration last
 observed-duration f k [] b = refl
 observed-duration f k (sampled ps ∷ h) b = observed-duration f k h b
@@ -114,7 +116,8 @@ sampled-watched f h ps s a =
     each-numbered 0 (length (f .thresholds)) (λ k l. sampledPower l (numberAt ps k)) (heldLimiter f h) (watchedOf f h ps) (value-watched f h ps s a)
 
 -- ---- a setting
-pub limiters-limited : (f : AnyFresh) (h : History) (ts : List ℤ) (o u : ℕ) → settingsEach (heldLimiters f h) ts o u ≡ heldLimiters f (limitsSet ts o u ∷ h)
+pub limiters-limited : (f : AnyFresh) (h : History) (ts : List ℤ) (o u : ℕ)
+    → settingsEach (heldLimiters f h) ts o u ≡ heldLimiters f (limitsSet ts o u ∷ h)
 unfolding last observations exceeded sinceSetting trailing
 limiters-limited f h ts o u =
     each-numbered 0 (length (f .thresholds)) (λ k l. withSettings l (numberAt ts k) o u) (heldLimiter f h) (heldLimiter f (limitsSet ts o u ∷ h)) (λ k. refl)

@@ -23,14 +23,16 @@ use Rattle.control.specs.Control.{orStay, decision, modeDecision, movedTo}
 use Rattle.control.proofs.Answers.{answered, rows}
 use Rattle.limiter.specs.declared.Limiter.{Limiter}
 use Rattle.limiter.specs.declared.Watched.{Watched}
-use Rattle.history.specs.Effects.{AnyFresh, RequestCall, remoteDisconnect, remoteReconnect, manualDisconnect, manualReconnect, alarms, errors, Effect, sampled, requested, modeSet, limitsSet, clockSet, occurred, filterSet, bitsCleared, logCleared, listedModes}
+use Rattle.history.specs.Effects.{AnyFresh, RequestCall, remoteDisconnect, remoteReconnect, manualDisconnect, manualReconnect, alarms, errors, Effect}
+use Rattle.history.specs.Effects.{sampled, requested, modeSet, limitsSet, clockSet, occurred, filterSet, bitsCleared, logCleared, listedModes}
 use Rattle.history.specs.Last.{History, otherwise, given, last, modeOf, clockOf}
 use Rattle.history.specs.Limiter.{firesOver, firesUnder, monitoredValues, observations, exceededOf}
 use Rattle.history.specs.Switch.{spell, triesDisconnect, triesReconnect, decides, switchOf}
 use Rattle.history.specs.Logs.{when, moves, requestCode, localCode}
 use Rattle.history.specs.Account.{opens}
 use Rattle.machine.specs.Values.{Values, withControl, withLimiters, withClock}
-use Rattle.machine.specs.Machine.{Change, owing, lineNow, moving, decided, requestOf, firedLines, disconnectTried, reconnectTried, afterSample, sampleResult}
+use Rattle.machine.specs.Machine.{Change, owing, lineNow, moving, decided, requestOf, firedLines, disconnectTried, reconnectTried, afterSample}
+use Rattle.machine.specs.Machine.{sampleResult}
 use Rattle.machine.specs.Ranges.{AnySettings}
 use Rattle.machine.proofs.Lists.{map-map, any-map, any-ext, gathered-map, gathered-ext}
 use Rattle.machine.proofs.Ranges.{mode-range}
@@ -203,7 +205,8 @@ unlisted true = refl
 unlisted false = refl
 
 local-reconnect : (m : ℕ) (s x y : Bool) → within 5 6 m ≡ y → (y ≡ true → within 1 6 m ≡ true) → {c : ℕ} → OneOrTwo c
-    → orStay (answered request.LocalReconnect m (cond s 0 c)) ≡ change (cond s 0 c) (sampledTo s c false true x y) (localCode (sampledTo s c false true x y))
+    → orStay (answered request.LocalReconnect m (cond s 0 c))
+    ≡ change (cond s 0 c) (sampledTo s c false true x y) (localCode (sampledTo s c false true x y))
 unfolding answered
 local-reconnect m true x true e k p = rw (e, k refl)
 local-reconnect m false x true e k one = rw (e, k refl)
@@ -370,7 +373,8 @@ after-sample : (s : Values) (ws : List Watched) (g h : Bool) (xs : List Line) (t
     → (g ≡ true → orStay (decided s request.LocalDisconnect) ≡ change (s .control .state) to (localCode to))
     → (g ≡ false → h ≡ true → orStay (decided s request.LocalReconnect) ≡ change (s .control .state) to (localCode to))
     → (g ≡ false → h ≡ false → to ≡ s .control .state)
-    → afterSample s ws ≡ owing (withControl s (switchedTo (s .control) to)) 3 (xs ++ when (not (eqb (s .control .state) to)) (lineNow s (localCode to) ∷ []))
+    → afterSample s ws
+    ≡ owing (withControl s (switchedTo (s .control) to)) 3 (xs ++ when (not (eqb (s .control .state) to)) (lineNow s (localCode to) ∷ []))
 after-sample s ws true h xs to p q r over under stays =
     rw (p, r) (moving-switched s xs (decided s request.LocalDisconnect) to (localCode to) (over refl))
 after-sample s ws false true xs to p q r over under stays =

@@ -22,7 +22,8 @@ use Rattle.limiter.specs.Limiter.{sampledPower, withSettings}
 use Rattle.logs.specs.Lists.{appended, emptied}
 use Rattle.calls.specs.declared.Answer.{Answer}
 use Rattle.calls.specs.declared.Answer.the-variants.{Accepted, Refused}
-use Rattle.history.specs.Effects.{RequestCall, remoteDisconnect, remoteReconnect, manualDisconnect, manualReconnect, WhichRegister, alarms, errors, AnyCall, sample, request as requestCall, setMode, setLimiter, setClock, event, setFilter, clearBits, clearLog, script}
+use Rattle.history.specs.Effects.{RequestCall, remoteDisconnect, remoteReconnect, manualDisconnect, manualReconnect, WhichRegister, alarms, errors}
+use Rattle.history.specs.Effects.{AnyCall, sample, request as requestCall, setMode, setLimiter, setClock, event, setFilter, clearBits, clearLog, script}
 use Rattle.history.specs.Last.{numberAt}
 use Rattle.machine.specs.Settings.{limitsAnswer}
 use Rattle.machine.specs.Values.{Values, State, withControl, withLimiters, withClock, withAlarms, withErrors}

@@ -35,7 +35,8 @@ module _ (page s : List ℕ) (n : ℕ) (read : Outcome) (reads : read ≡ readOf
       let refused : readOf page .answer ≡ Refused r = ap (λ (o : Outcome). o .answer) (sym reads) ∙ e in
       (rw refused, rw refused)
 
-  pub rounds-written : (r : ℕ) (m : Meter) (a : Answer) (after : List ℕ) → read .answer ≡ Accepted → m ≡ roundsFrom n (read .meter) (recordsFrom 0 s)
+  pub rounds-written : (r : ℕ) (m : Meter) (a : Answer) (after : List ℕ) → read .answer ≡ Accepted
+      → m ≡ roundsFrom n (read .meter) (recordsFrom 0 s)
       → (a ≡ writeAnswer m page) × (after ≡ written m page) → r ≡ answerNumber a
       → (r ≡ callsAnswer page s n) × (after ≡ callsPage page s n)
   unfolding callsAnswer callsPage
@@ -61,7 +62,8 @@ pub passing-room : (n k r : ℕ) (test : ℕ → Bool) (b : Bool) → k ≡ pass
 passing-room n k r test true so-far adds = omega (arith, passing-most n test)
 passing-room n k r test false so-far adds = omega (arith, passing-most n test)
 
-pub next-passing : (n k r : ℕ) (test : ℕ → Bool) (b : Bool) → k ≡ passing n test → r ≡ cond b 1 0 → b ≡ test n → k + r ≡ passing (n + 1) test
+pub next-passing : (n k r : ℕ) (test : ℕ → Bool) (b : Bool) → k ≡ passing n test → r ≡ cond b 1 0 → b ≡ test n
+    → k + r ≡ passing (n + 1) test
 unfolding passing
 next-passing n k r test b so-far adds passes = rw (so-far, adds, passes, add-one n)
 

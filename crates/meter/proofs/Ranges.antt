@@ -2,7 +2,8 @@
 use mathlib.Core.List.{List, [], _∷_, map, reverse, reverseAux}
 use Rattle.base.specs.Tests.{every}
 use Rattle.calls.specs.declared.Call.{Call}
-use Rattle.calls.specs.declared.Call.the-variants.{Sample, RemoteDisconnect, RemoteReconnect, ManualDisconnect, ManualReconnect, SetMode, SetLimiter, SetClock, Event, SetAlarmFilter, SetErrorFilter, ClearAlarms, ClearErrors, ClearLog, Script}
+use Rattle.calls.specs.declared.Call.the-variants.{Sample, RemoteDisconnect, RemoteReconnect, ManualDisconnect, ManualReconnect, SetMode, SetLimiter}
+use Rattle.calls.specs.declared.Call.the-variants.{SetClock, Event, SetAlarmFilter, SetErrorFilter, ClearAlarms, ClearErrors, ClearLog, Script}
 use Rattle.calls.specs.Calls.{InRange, AllInRange}
 use Rattle.history.specs.Effects.{AnyCall}
 use Rattle.history.specs.OnePhase.{Fresh, asFresh, asCall}

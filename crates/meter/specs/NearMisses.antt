@@ -82,7 +82,8 @@ pub record NearMisses : Type 0 where
   -- 'mode 0 has switch 1'
   pub mode-zero : map (λ s. soundAndAnswer (ofControl 0 s)) (0 ∷ 1 ∷ 2 ∷ []) ≡ bad ∷ good ∷ bad ∷ []
   -- 'Threshold in watts, 0 to 2,147,483,647'
-  pub thresholds : map (λ t. soundAndAnswer (ofLimiter t 5 9 false 0)) (negsuc 0 ∷ pos 0 ∷ pos 2147483647 ∷ pos 2147483648 ∷ []) ≡ bad ∷ good ∷ good ∷ bad ∷ []
+  pub thresholds : map (λ t. soundAndAnswer (ofLimiter t 5 9 false 0)) (negsuc 0 ∷ pos 0 ∷ pos 2147483647 ∷ pos 2147483648 ∷ [])
+      ≡ bad ∷ good ∷ good ∷ bad ∷ []
   -- 'Two durations, Over and Under, 1 to 86,400 samples': each where the other one is awaited
   pub overs : map (λ o. soundAndAnswer (ofLimiter (pos 3000) o 9 true 0)) (0 ∷ 1 ∷ 86400 ∷ 86401 ∷ []) ≡ bad ∷ good ∷ good ∷ bad ∷ []
   pub unders : map (λ u. soundAndAnswer (ofLimiter (pos 3000) 5 u false 0)) (0 ∷ 1 ∷ 86400 ∷ 86401 ∷ []) ≡ bad ∷ good ∷ good ∷ bad ∷ []
@@ -90,13 +91,18 @@ pub record NearMisses : Type 0 where
   pub runs : map (λ n. soundAndAnswer (ofLimiter (pos 3000) 5 9 false n)) (4 ∷ 5 ∷ []) ≡ good ∷ bad ∷ []
   pub exceeded-runs : map (λ n. soundAndAnswer (ofLimiter (pos 3000) 5 9 true n)) (8 ∷ 9 ∷ []) ≡ good ∷ bad ∷ []
   -- 'each log holds only its own codes'; all 256 are in `HeldCodes` of events
-  pub standard-codes : map (λ c. soundAndAnswer (ofLine 1 c)) (2 ∷ 3 ∷ 8 ∷ 9 ∷ 16 ∷ 17 ∷ 40 ∷ 255 ∷ []) ≡ good ∷ bad ∷ good ∷ bad ∷ good ∷ bad ∷ bad ∷ good ∷ []
-  pub fraud-codes : map (λ c. soundAndAnswer (ofLine 2 c)) (39 ∷ 40 ∷ 46 ∷ 47 ∷ 68 ∷ 255 ∷ []) ≡ bad ∷ good ∷ good ∷ bad ∷ bad ∷ good ∷ []
-  pub disconnect-codes : map (λ c. soundAndAnswer (ofLine 3 c)) (58 ∷ 59 ∷ 69 ∷ 70 ∷ 254 ∷ 255 ∷ []) ≡ bad ∷ good ∷ good ∷ bad ∷ bad ∷ good ∷ []
+  pub standard-codes : map (λ c. soundAndAnswer (ofLine 1 c)) (2 ∷ 3 ∷ 8 ∷ 9 ∷ 16 ∷ 17 ∷ 40 ∷ 255 ∷ [])
+      ≡ good ∷ bad ∷ good ∷ bad ∷ good ∷ bad ∷ bad ∷ good ∷ []
+  pub fraud-codes : map (λ c. soundAndAnswer (ofLine 2 c)) (39 ∷ 40 ∷ 46 ∷ 47 ∷ 68 ∷ 255 ∷ [])
+      ≡ bad ∷ good ∷ good ∷ bad ∷ bad ∷ good ∷ []
+  pub disconnect-codes : map (λ c. soundAndAnswer (ofLine 3 c)) (58 ∷ 59 ∷ 69 ∷ 70 ∷ 254 ∷ 255 ∷ [])
+      ≡ bad ∷ good ∷ good ∷ bad ∷ bad ∷ good ∷ []
   -- 'each of up to 32 lines'
   pub counts :
       map (λ ks. soundAndAnswer (ofCounts ks)) ((32 ∷ 32 ∷ 32 ∷ []) ∷ (33 ∷ 32 ∷ 32 ∷ []) ∷ (32 ∷ 33 ∷ 32 ∷ []) ∷ (32 ∷ 32 ∷ 33 ∷ []) ∷ [])
       ≡ good ∷ bad ∷ bad ∷ bad ∷ []
   -- 'lines past its count are zero': the clock of each, and its code
-  pub clocks-past : map (λ i. soundAndAnswer (ofLines (set oneEach i 1) oneEach)) places ≡ good ∷ bad ∷ bad ∷ good ∷ bad ∷ bad ∷ good ∷ bad ∷ bad ∷ []
-  pub codes-past : map (λ i. soundAndAnswer (ofLines oneEach (set oneEach i 255))) places ≡ good ∷ bad ∷ bad ∷ good ∷ bad ∷ bad ∷ good ∷ bad ∷ bad ∷ []
+  pub clocks-past : map (λ i. soundAndAnswer (ofLines (set oneEach i 1) oneEach)) places
+      ≡ good ∷ bad ∷ bad ∷ good ∷ bad ∷ bad ∷ good ∷ bad ∷ bad ∷ []
+  pub codes-past : map (λ i. soundAndAnswer (ofLines oneEach (set oneEach i 255))) places
+      ≡ good ∷ bad ∷ bad ∷ good ∷ bad ∷ bad ∷ good ∷ bad ∷ bad ∷ []

@@ -59,7 +59,8 @@ limiter-held l e =
 register-held : (r : Register) → Word (r .bits) → Word (r .filter) → registerArea .Holds r
 register-held r bits filter = ((omega arith, omega arith), tt)
 
-lines-held : (k at : ℕ) (ts cs : List ℕ) → ((i : ℕ) → getD ts i 0 < 256 ^ 4) → ((i : ℕ) → getD cs i 0 < 256 ^ 1) → AllHold lineFormat (storedLines k at ts cs)
+lines-held : (k at : ℕ) (ts cs : List ℕ) → ((i : ℕ) → getD ts i 0 < 256 ^ 4) → ((i : ℕ) → getD cs i 0 < 256 ^ 1)
+    → AllHold lineFormat (storedLines k at ts cs)
 unfolding storedLines
 lines-held zero at ts cs t c = tt
 lines-held (suc k) at ts cs t c = (((t at, c at), tt), lines-held k (suc at) ts cs t c)

@@ -22,7 +22,8 @@ use Rattle.meter.specs.Settings.{Settings}
 use Rattle.meter.specs.Holding.{holding}
 use Rattle.meter.proofs.Values.{logs-sound}
 use Rattle.meter.proofs.Simulates.{account-sound}
-use Rattle.page.specs.Layout.{controlArea, limiterArea, clockArea, registerArea, lineFormat, logArea, logsArea, areasOf, ofAreas, layout, directory, pageOf}
+use Rattle.page.specs.Layout.{controlArea, limiterArea, clockArea, registerArea, lineFormat, logArea, logsArea, areasOf, ofAreas, layout, directory}
+use Rattle.page.specs.Layout.{pageOf}
 use Rattle.page.specs.AccountPage.{printedPairs, fields, logBytes, accountPage}
 use Rattle.page.proofs.Lines.{encs-append}
 use Rattle.page.proofs.Inverse.{three-back}
@@ -49,7 +50,9 @@ column-filled f e xs = rw (length-map, map-append, map-zeros f e (32 - length xs
 laid-areas : (x y z : List Line) → laid (x ∷ y ∷ z ∷ []) ≡ ofAreas (area x ∷ area y ∷ area z ∷ [])
 unfolding laid ofAreas flat flatMap
 laid-areas x y z =
-    rw (column-filled lineClock refl x, column-filled lineClock refl y, column-filled lineClock refl z, column-filled lineCode refl x, column-filled lineCode refl y, column-filled lineCode refl z)
+    let clocks = column-filled lineClock refl in
+    let codes = column-filled lineCode refl in
+    rw (clocks x, clocks y, clocks z, codes x, codes y, codes z)
 
 zero-lines : (k : ℕ) → encs lineFormat (replicate k (line 0 0)) ≡ replicate (k * 5) 0
 unfolding flatMap be

@@ -66,7 +66,8 @@ module _ (w : ℕ) where
     fit-flat [] h i = pow-pos w
     fit-flat (xs ∷ logs) h i =
         fit-append (padded (map column xs)) (flat (map (map column) logs))
-        (fit-append (map column xs) (replicate (32 - length (map column xs)) 0) (fit-column xs (every-first (every fits) xs logs h)) (fit-zeros (32 - length (map column xs))))
+        (fit-append (map column xs) (replicate (32 - length (map column xs)) 0)
+        (fit-column xs (every-first (every fits) xs logs h)) (fit-zeros (32 - length (map column xs))))
         (fit-flat logs (every-rest (every fits) xs logs h)) i
 
 counts-fit : {logs : List (List Line)} → Short logs → Fit 1 (map length logs)

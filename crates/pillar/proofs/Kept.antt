@@ -47,7 +47,8 @@ module _ (page : List ℕ) (p : Parsed) where
         )
 
 -- the numbers of a call that a command of numbers of 32 bits names are values of their types
-pub named-range : (p : Parsed) (c : Call) (r : Command) → p ≡ callOf r → p ≡ Ok c → r .n1 < 256 ^ 4 → r .n2 < 256 ^ 4 → r .n3 < 256 ^ 4 → InRange c
+pub named-range : (p : Parsed) (c : Call) (r : Command) → p ≡ callOf r → p ≡ Ok c → r .n1 < 256 ^ 4 → r .n2 < 256 ^ 4 → r .n3 < 256 ^ 4
+    → InRange c
 named-range p c r read names h1 h2 h3 =
     let range : ParsedInRange p = rw read (call-range r h1 h2 h3) in
     rw names at range

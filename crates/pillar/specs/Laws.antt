@@ -32,7 +32,8 @@ pub record Laws : Type 0 where
   -- 'kind | 13 | not 1–15; the command's reading fails before the record is touched': whatever the page holds
   pub call-no-kind : (page : List ℕ) (r : Command) → within 1 15 (r .kind) ≡ false → callNumber page r ≡ 13
   -- of a kind from 1 to 15 the reader's refusal of the page comes next
-  pub call-unread : (page : List ℕ) (r : Command) (n : ℕ) → within 1 15 (r .kind) ≡ true → readOf page .answer ≡ Refused n → callNumber page r ≡ n
+  pub call-unread : (page : List ℕ) (r : Command) (n : ℕ) → within 1 15 (r .kind) ≡ true → readOf page .answer ≡ Refused n
+      → callNumber page r ≡ n
   -- a call on a page that is read answers as the machine does
   pub call-answer : (page : List ℕ) (r : Command) → Bytes page → readOf page .answer ≡ Accepted → AllInRange (callsIn (r ∷ []))
       → callNumber page r ≡ answerNumber (nextOf (readOf page .meter) r .answer)

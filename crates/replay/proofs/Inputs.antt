@@ -53,7 +53,8 @@ module _ (s out : List ℕ) (bytes : Bytes s) (e : replayAnswer s out ≡ Writte
   unfolding replayed
   page = rw e (take-at (accountPage (accountIn s)) (drop size out) size (ap length (printed s bytes accepted) ∙ page-length (recordOf (holding (accountIn s)))))
 
-pub compared : (s t out out′ : List ℕ) → Bytes s → Bytes t → replayAnswer s out ≡ Written → replayAnswer t out′ ≡ Written → ComparedInputs s t out out′
+pub compared : (s t out out′ : List ℕ) → Bytes s → Bytes t → replayAnswer s out ≡ Written → replayAnswer t out′ ≡ Written
+    → ComparedInputs s t out out′
 unfolding trace accountIn
 compared s t out out′ bs bt es et =
     let first = page s out bs es in

@@ -36,7 +36,8 @@ use Rattle.page.proofs.Printed.{list-written}
 use Rattle.replay.specs.declared.Replayed.{Replayed}
 use Rattle.replay.specs.declared.Replayed.the-variants.{Written, Refused}
 use Rattle.replay.specs.Input.{recordFormat}
-use Rattle.replay.specs.Replay.{recordLength, firstIn, recordsFrom, laterIn, settingsIn, withCall, callsIn, startOf, nextOf, meterAfter, lastMeter, accountIn, unlessRefused, endOf, replayAnswer, bufferAfter, replayed}
+use Rattle.replay.specs.Replay.{recordLength, firstIn, recordsFrom, laterIn, settingsIn, withCall, callsIn, startOf, nextOf, meterAfter, lastMeter}
+use Rattle.replay.specs.Replay.{accountIn, unlessRefused, endOf, replayAnswer, bufferAfter, replayed}
 use Rattle.replay.proofs.Records.{record-lawful}
 use Rattle.replay.proofs.Ranges.{ParsedInRange, settings-range, parsed-range, calls-range}
 
@@ -84,7 +85,8 @@ next-sound m r h z e = ap (soundMeter builtIn) (sym (meter-next m r [])) ∙ go 
 
 -- a turn of it: the record at i is behind it, and those from i + 1 on are left
 module _ (s : List ℕ) (i : ℕ) (m : Meter) (r : Command) (o : Outcome) (h : i < length s / 21) where
-  pub after-record : r ≡ recordFormat .dec s (i * 21) → o ≡ nextOf m r → meterAfter (o .meter) (recordsFrom (i + 1) s) ≡ meterAfter m (recordsFrom i s)
+  pub after-record : r ≡ recordFormat .dec s (i * 21) → o ≡ nextOf m r
+      → meterAfter (o .meter) (recordsFrom (i + 1) s) ≡ meterAfter m (recordsFrom i s)
   after-record read next = rw (next, read, records-next s i h) (sym (meter-next m (recordFormat .dec s (i * 21)) (recordsFrom (i + 1) s)))
 
   -- and a sound meter is one still

@@ -37,7 +37,8 @@ pub record Laws : Type 0 where
   -- the meter that the machine reaches record by record, from an accepted fresh, holds the account of the history
   pub account-held : (s : List ℕ) → Bytes s → startOf (firstIn s) .answer ≡ Accepted → lastMeter s ≡ recordOf (holding (accountIn s))
   -- 'the page after the one equals the page after the other exactly when the accounts of the two histories are equal', from bytes to page
-  pub compared : (s t out out′ : List ℕ) → Bytes s → Bytes t → replayAnswer s out ≡ Written → replayAnswer t out′ ≡ Written → ComparedInputs s t out out′
+  pub compared : (s t out out′ : List ℕ) → Bytes s → Bytes t → replayAnswer s out ≡ Written → replayAnswer t out′ ≡ Written
+      → ComparedInputs s t out out′
   -- the digits of a number: itself below ten; else those of its quotient by ten, and the remainder's behind them
   pub one-digit : (n : ℕ) → n < 10 → decimal n ≡ digitByte n ∷ []
   pub more-digits : (n : ℕ) → 10 ≤ n → decimal n ≡ decimal (n / 10) ++ (digitByte (n % 10) ∷ [])
