@@ -1,15 +1,7 @@
 -- The call that a kind names is of that kind, and the kinds from 1 to 15 name one.
-use mathlib.Core.Path.{_≡_, refl, sym, _∙_}
-use mathlib.Core.Bool.{true, false, cond, and-false, false≢true}
-use Prim.Native.Nat.{ℕ, suc, _≤_}
-use native.Mathlib.Omega.{arith}
-use lib.Dec.{eqb}
-use borrow.Author.Tests.{eqb-true, eqb-false, lt-leb}
-use Rattle.base.specs.Tests.{within}
-use Rattle.base.proofs.Bools.{by-test}
-use Rattle.calls.specs.declared.Call.{Call}
-use Rattle.calls.specs.declared.Command.{Command}
-use Rattle.calls.specs.declared.Parsed.{Parsed}
+use Rattle.base.proofs.Prelude.{_≡_, refl, sym, _∙_, true, false, cond, false≢true, and-false, ℕ, suc, _≤_, arith, eqb, lt-leb, eqb-true, eqb-false, within}
+use Rattle.base.proofs.Prelude.{by-test}
+use Rattle.calls.specs.declared.{Call.Call, Command.Command, Parsed.Parsed}
 use Rattle.calls.specs.declared.Parsed.the-variants.{Ok, NoKind}
 use Rattle.calls.specs.Calls.{kindOf, callOf}
 use Rattle.calls.specs.Laws.{Laws}

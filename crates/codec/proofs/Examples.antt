@@ -1,7 +1,6 @@
 -- The examples, each by computing it.
 use mathlib.Core.Path.{refl}
-use Rattle.codec.specs.BigEndian.{be}
-use Rattle.codec.specs.Format.{numAt}
+use Rattle.codec.specs.{BigEndian.be, Format.numAt}
 use Rattle.codec.specs.Examples.{Examples}
 
 pub examples : Examples

@@ -1,18 +1,12 @@
 -- Each format is lawful, and formats put together from lawful ones are.
-use mathlib.Core.Path.{_≡_, refl, sym, ap, _∙_, subst, subst⁻¹}
-use mathlib.Core.Bool.{Bool, true, false, _&&_, cond}
-use mathlib.Core.List.{List, [], _∷_, _++_, append-assoc, flatMap}
-use Prim.Native.Nat.{ℕ, zero, suc, _+_, _*_, _<_, _≤_}
-use native.Mathlib.Nat.{suc-mul, zero-mul, add-comm, mod-eq-of-lt}
-use native.Mathlib.Omega.{arith}
-use lib.ListN.{length, take, drop, length-append}
-use lib.Seq.{take-add, drop-drop}
-use lib.Dec.{leb, eqb}
-use lib.IntN.{pos, natAbs}
+use Rattle.base.proofs.Prelude.{_≡_, refl, sym, ap, _∙_, subst, Bool, true, false, _&&_, cond, List, [], _∷_, _++_, append-assoc, flatMap, ℕ, zero, suc, _+_}
+use Rattle.base.proofs.Prelude.{_*_, _<_, _≤_, zero-mul, suc-mul, arith, eqb, leb, pos, length, take, drop, length-append, drop-drop, take-add, leb-true}
+use Rattle.base.proofs.Prelude.{and-left, and-right}
+use mathlib.Core.Path.{subst⁻¹}
+use native.Mathlib.Nat.{add-comm, mod-eq-of-lt}
+use lib.IntN.{natAbs}
 use lib.Signed.{pos-natAbs}
-use borrow.Author.Tests.{leb-true}
 use mir.Val.{boolByte}
-use Rattle.base.proofs.Bools.{and-left, and-right}
 use Rattle.codec.specs.Format.{numAt, Format, num, flag, natural, _⊗_, encs, decs, allValid, AllHold, times, viaOn, via}
 use Rattle.codec.specs.Lawful.{Bytes, Lawful}
 use Rattle.codec.proofs.Numbers.{length-be, numAt-be, be-numAt, numAt-lt}

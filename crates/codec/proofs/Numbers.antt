@@ -1,18 +1,13 @@
 -- A number in its bytes: what is written is read back, bytes are written back as they were, and a number is its higher and its lower half.
-use mathlib.Core.Path.{_≡_, refl, sym, ap, _∙_}
-use mathlib.Core.List.{List, [], _∷_, _++_, append-assoc}
-use Prim.Native.Nat.{ℕ, zero, suc, _+_, _*_, _/_, _%_, _^_, _<_, _≤_}
-use native.Mathlib.Nat.{add-suc, suc-add, zero-add, add-zero, add-assoc, add-mul, mul-assoc, mul-comm, mod-one, pow-succ', div-add-mod', div-div-eq-div-mul}
+use Rattle.base.proofs.Prelude.{_≡_, refl, sym, ap, _∙_, List, [], _∷_, _++_, append-assoc, ℕ, zero, suc, _+_, _*_, _/_, _%_, _^_, _<_, _≤_, zero-add, add-zero}
+use Rattle.base.proofs.Prelude.{suc-add, add-suc, add-assoc, pow-succ', div-div-eq-div-mul, add-one, arith, length, getD, take, drop, length-append, drop-cons}
+use native.Mathlib.Nat.{add-mul, mul-assoc, mul-comm, mod-one, div-add-mod'}
 use native.Mathlib.Nat.{mul-add-div-right, mul-add-mod-self-right}
-use native.Mathlib.Numerals.{add-one}
-use native.Mathlib.Omega.{arith}
 use lib.Arith.{digits-div, digits-mod, digits-lt, mod-mul}
 use lib.Pow.{pow-add}
-use lib.ListN.{length, getD, take, drop, length-append, List·getD-eq-default}
-use lib.Seq.{getD-at, drop-cons}
-use Rattle.codec.specs.BigEndian.{be}
-use Rattle.codec.specs.Format.{numAt}
-use Rattle.codec.specs.Lawful.{Bytes}
+use lib.ListN.{List·getD-eq-default}
+use lib.Seq.{getD-at}
+use Rattle.codec.specs.{BigEndian.be, Format.numAt, Lawful.Bytes}
 
 pub pow-pos : (k : ℕ) → 0 < 256 ^ k
 pow-pos zero = omega arith

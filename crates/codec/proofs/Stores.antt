@@ -1,17 +1,10 @@
 -- Stores that follow each other, and loops that write or read one value more at each turn.
-use mathlib.Core.Path.{_≡_, sym, ap, _∙_}
-use mathlib.Core.List.{List, [], _∷_, _++_, append-assoc, append-nil, flatMap}
-use Prim.Native.Nat.{ℕ, zero, suc, _+_, _*_, _/_, _%_, _^_, _<_, _≤_}
-use native.Mathlib.Nat.{add-suc, suc-add, zero-add, add-zero, suc-mul, zero-mul}
-use native.Mathlib.Numerals.{add-one}
-use native.Mathlib.Omega.{arith}
-use lib.ListN.{set, length, getD, take, drop, length-append, length-drop}
-use lib.Seq.{sets, sets-eq, length-take-le, take-append-seam, drop-append-add, drop-drop}
-use Rattle.codec.specs.BigEndian.{be}
+use Rattle.base.proofs.Prelude.{_≡_, sym, ap, _∙_, List, [], _∷_, _++_, append-assoc, append-nil, flatMap, ℕ, zero, suc, _+_, _*_, _/_, _%_, _^_, _<_, _≤_}
+use Rattle.base.proofs.Prelude.{zero-add, add-zero, suc-add, add-suc, zero-mul, suc-mul, add-one, arith, length, getD, set, take, drop, length-append}
+use Rattle.base.proofs.Prelude.{length-drop, sets, sets-eq, drop-drop, length-take-le, take-append-seam, drop-append-add}
+use Rattle.codec.specs.{BigEndian.be, Lawful.Lawful}
 use Rattle.codec.specs.Format.{Format, encs, decs, AllHold}
-use Rattle.codec.specs.Lawful.{Lawful}
-use Rattle.codec.proofs.Numbers.{length-be, be-halves}
-use Rattle.codec.proofs.Formats.{length-encs}
+use Rattle.codec.proofs.{Numbers.length-be, Numbers.be-halves, Formats.length-encs}
 
 -- ---- stores
 

@@ -1,11 +1,6 @@
 -- Blocks that were read one after the other, and one more.
-use mathlib.Core.Path.{_≡_, refl, sym, ap, subst, _∙_}
-use mathlib.Core.Bool.{true}
-use mathlib.Core.List.{List, [], _∷_, _++_}
-use Prim.Native.Nat.{ℕ, _≤_}
-use lib.ListN.{length}
-use Rattle.listing.specs.declared.Progress.{Progress}
-use Rattle.listing.specs.declared.ListingEnd.{ListingEnd}
+use Rattle.base.proofs.Prelude.{_≡_, refl, sym, ap, _∙_, subst, true, false, List, [], _∷_, _++_, ℕ, _<_, _≤_, length}
+use Rattle.listing.specs.declared.{Progress.Progress, ListingEnd.ListingEnd}
 use Rattle.listing.specs.Listing.{afterFirst, afterBlock, afterBlocks, Blocks}
 use Rattle.listing.specs.Laws.{BlockRead, BlocksRead, InputRead}
 
@@ -39,6 +34,10 @@ led-on before led more read =
         read .progress ∙ ap (λ (p : Progress). afterBlock p s) (led .1 .1) ∙ sym (after-snoc before ss s),
       ),
     )
+
+pub blocks-read : {before : Progress} {r : ListingEnd} → Led before (r .progress)
+    → (r .written ≡ true → r .progress .position < 18446744073709551420 → r .progress .more ≡ false) → BlocksRead before r
+blocks-read led ended = record { blocks = led .0; followed = led .1 .0; progress = led .1 .1; ended = ended }
 
 -- the first bytes, and what follows them
 pub input-read : (first : List ℕ) → length first ≤ 21 → {p : Progress} → p ≡ afterFirst first → {r : ListingEnd} → BlocksRead p r

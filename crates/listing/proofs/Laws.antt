@@ -1,14 +1,7 @@
 -- The texts of the parts are the listing: of blocks, by what they add to each other; of the whole, by what the first record is.
-use mathlib.Core.Path.{_≡_, refl, ap, subst, _∙_}
-use mathlib.Core.Bool.{Bool, true, false, cond, _&&_}
-use mathlib.Core.List.{List, [], _∷_, _++_, append-assoc, append-nil, flatMap}
-use Prim.Native.Nat.{ℕ, zero, suc, _+_, _*_, _%_, _<_, _≤_}
-use native.Mathlib.Omega.{arith}
-use lib.Dec.{eqb, ltb}
-use lib.ListN.{length, take, drop, length-append, length-take, length-drop, take-append-drop}
-use lib.Seq.{take-all}
-use borrow.Author.Tests.{ltb-true, ltb-false, eqb-true, lt-ltb, le-ltb, le-leb, lt-leb, eq-eqb, ne-eqb}
-use Rattle.base.proofs.Bools.{by-test}
+use Rattle.base.proofs.Prelude.{_≡_, refl, ap, _∙_, subst, Bool, true, false, _&&_, cond, List, [], _∷_, _++_, append-assoc, append-nil, flatMap, ℕ, zero, suc}
+use Rattle.base.proofs.Prelude.{_+_, _*_, _%_, _<_, _≤_, arith, eqb, ltb, length, take, drop, length-append, length-take, length-drop, take-append-drop}
+use Rattle.base.proofs.Prelude.{take-all, lt-ltb, le-ltb, le-leb, lt-leb, eq-eqb, ne-eqb, ltb-true, ltb-false, eqb-true, by-test}
 use Rattle.calls.specs.declared.Command.{Command}
 use Rattle.meter.specs.declared.Outcome.{Outcome}
 use Rattle.replay.specs.Replay.{recordLength, firstIn, recordsFrom, startOf, meterAfter}
@@ -23,9 +16,7 @@ use Rattle.listing.proofs.Parts.{first-inside, later-behind, records-ca
 -- ---- blocks
 
 cut-behind : (k n : ℕ) → cutLine (k * 21 + n) ≡ cutLine n
-cut-behind k n =
-    let same : (k * 21 + n) % 21 ≡ n % 21 = omega arith in
-    rw same
+cut-behind k n = let same : (k * 21 + n) % 21 ≡ n % 21 = omega arith in rw same
 
 -- a full block, and the bytes behind it
 block-cat : (p : Progress) (s t : List ℕ) → length s ≡ 195 * 21 → blockText p s ++ blockText (afterBlock p s) t ≡ blockText p (s ++ t)
@@ -34,13 +25,8 @@ block-cat p s t full =
     let none : cutLine (length s) ≡ [] = ap cutLine full in
     let size : length (s ++ t) ≡ 195 * 21 + length t = omega (arith, length-append s t) in
     let same : cutLine (length (s ++ t)) ≡ cutLine (length t) = ap cutLine size ∙ cut-behind 195 (length t) in
-    let lines : linesFrom (p .position) (p .meter) (recordsFrom 0 (s ++ t))
-    ≡ linesFrom (p .position) (p .meter) (recordsFrom 0 s)
-    ++ linesFrom (p .position + 195) (meterAfter (p .meter) (recordsFrom 0 s)) (recordsFrom 0 t) =
-    ap (linesFrom (p .position) (p .meter)) (records-cat s t 195 full)
-    ∙ lines-cat (p .position) (p .meter) (recordsFrom 0 s) (recordsFrom 0 t)
-    ∙ rw (records-count s t 195 full) in
-    rw (none, same, lines, append-nil, append-assoc)
+    let lines = lines-cat (p .position) (p .meter) (recordsFrom 0 s) (recordsFrom 0 t) in
+    rw (none, same, records-cat s t 195 full, lines, records-count s t 195 full, append-nil, append-assoc)
 
 no-block : (p : Progress) (ss : List (List ℕ)) → p .more ≡ false → Blocks p ss → ss ≡ []
 unfolding Blocks
@@ -64,16 +50,7 @@ blocks-joined p (s ∷ ss) goes h e =
 -- fewer bytes than a record's are all of the input
 short-listed : (s : List ℕ) → length s < 21 → firstText s ≡ listingOf s
 unfolding firstText listingOf
-short-listed s h =
-    let same : length s % 21 ≡ length s = omega arith in
-    rw (lt-ltb _ _ h, same)
-
-record-listed : (s : List ℕ) (r : Command) → firstIn s ≡ r → 21 ≤ length s
-    → listingOf s ≡ cond (eqb (r .kind) 0) (listingFrom (startOf r) s) badLine
-unfolding listingOf
-record-listed s r e h =
-    rw (ne-eqb (length s) 0 (λ z. omega arith), le-ltb (length s) 21 h)
-    (ap (λ (r : Command). cond (eqb (r .kind) 0) (listingFrom (startOf r) s) badLine) e)
+short-listed s h = let same : length s % 21 ≡ length s = omega arith in rw (lt-ltb _ _ h, same)
 
 -- a whole first record, and the bytes behind it
 module _ (first rest : List ℕ) (size : length first ≡ 21) where
@@ -89,15 +66,15 @@ module _ (first rest : List ℕ) (size : length first ≡ 21) where
 
   from-listed : (o : Outcome) → listingFrom o (first ++ rest)
       ≡ shown (lineOf 1 o) ++ cond (freshAccepted o) (linesFrom 2 (o .meter) (recordsFrom 0 rest) ++ cutLine (length rest)) []
-  from-listed o =
-      let same : cutLine (length (first ++ rest)) ≡ cutLine (length rest) =
-      ap cutLine joined-size ∙ cut-behind 1 (length rest) in
-      rw (later-behind first rest size, same)
+  from-listed o = rw (later-behind first rest size, ap cutLine joined-size ∙ cut-behind 1 (length rest))
 
   whole-listed : listingOf (first ++ rest)
       ≡ cond (eqb (firstIn first .kind) 0) (listingFrom (startOf (firstIn first)) (first ++ rest)) badLine
+  unfolding listingOf
   whole-listed =
-      record-listed (first ++ rest) (firstIn first) (first-inside first rest (omega arith)) (omega (arith, joined-size))
+      let n = joined-size in
+      rw (ne-eqb (length (first ++ rest)) 0 (λ z. omega arith), le-ltb (length (first ++ rest)) 21 (omega arith))
+      (ap (λ (r : Command). cond (eqb (r .kind) 0) (listingFrom (startOf r) (first ++ rest)) badLine) (first-inside first rest (omega arith)))
 
 -- by what the first record is: of kind 0 or not, accepted or not
 by-first : (kind accepted : Bool) (line bad rest texts : List ℕ) → (kind && accepted ≡ true → texts ≡ rest)

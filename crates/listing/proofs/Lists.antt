@@ -1,14 +1,8 @@
 -- A block's lines put one by one: what is in the text, and what the records that are left will add to it.
-use mathlib.Core.Path.{_≡_, refl, sym, ap, _∙_}
-use mathlib.Core.List.{List, [], _∷_, _++_}
-use Prim.Native.Nat.{ℕ, _+_, _*_, _≤_}
-use native.Mathlib.Omega.{arith}
-use lib.ListN.{length, length-append}
-use lib.Seq.{sets, length-sets}
+use Rattle.base.proofs.Prelude.{_≡_, refl, sym, ap, _∙_, List, [], _∷_, _++_, ℕ, _+_, _*_, _≤_, arith, length, length-append, sets, length-sets}
 use Rattle.codec.proofs.Stores.{sets-then}
 use Rattle.calls.specs.declared.Command.{Command}
-use Rattle.meter.specs.declared.Meter.{Meter}
-use Rattle.meter.specs.declared.Outcome.{Outcome}
+use Rattle.meter.specs.declared.{Meter.Meter, Outcome.Outcome}
 use Rattle.replay.specs.declared.ListingLine.{ListingLine}
 use Rattle.meter.specs.Machine.{recordAfter}
 use Rattle.replay.specs.Replay.{callsIn, nextOf, meterAfter}

@@ -1,11 +1,6 @@
 -- An input in two parts: its records, their lines and the line `short` are those of the parts.
-use mathlib.Core.Path.{_≡_, refl, sym, ap, _∙_}
-use mathlib.Core.List.{List, [], _∷_, _++_, append-assoc}
-use Prim.Native.Nat.{ℕ, zero, suc, _+_, _-_, _*_, _/_, _≤_}
-use native.Mathlib.Nat.{add-assoc, add-suc, add-zero, suc-mul}
-use native.Mathlib.Omega.{arith}
-use lib.ListN.{length, length-append, List·getD-append}
-use lib.Seq.{getD-append-add}
+use Rattle.base.proofs.Prelude.{_≡_, refl, sym, ap, _∙_, List, [], _∷_, _++_, append-assoc, ℕ, zero, suc, _+_, _-_, _*_, _/_, _≤_, add-zero, add-suc, add-assoc}
+use Rattle.base.proofs.Prelude.{suc-mul, arith, length, length-append, List·getD-append, getD-append-add}
 use Rattle.codec.specs.Format.{Format, numAt, decs}
 use Rattle.codec.proofs.Stores.{decs-append}
 use Rattle.calls.specs.declared.Command.{Command}
@@ -13,8 +8,7 @@ use Rattle.meter.specs.declared.Meter.{Meter}
 use Rattle.meter.specs.Machine.{recordAfter}
 use Rattle.replay.specs.Input.{recordFormat}
 use Rattle.replay.specs.Replay.{firstIn, laterIn, recordsFrom, callsIn, nextOf, meterAfter}
-use Rattle.replay.proofs.Records.{record-numbers}
-use Rattle.replay.proofs.Runs.{meter-next}
+use Rattle.replay.proofs.{Records.record-numbers, Runs.meter-next}
 use Rattle.listing.specs.Lines.{linesFrom}
 
 -- ---- values that are read from the first part, and from the second

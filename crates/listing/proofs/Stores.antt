@@ -1,16 +1,26 @@
--- Bytes stored one by one, and what is still to be stored of them.
-use mathlib.Core.Path.{_≡_}
-use mathlib.Core.List.{List}
-use Prim.Native.Nat.{ℕ, _+_, _<_, _≤_}
-use native.Mathlib.Numerals.{add-one}
-use lib.ListN.{length, getD, set, drop, drop-of-length-le}
-use lib.Seq.{sets, drop-cons}
+-- Bytes stored one by one: those that are stored and those that are left are all of them.
+use Rattle.base.proofs.Prelude.{_≡_, List, ℕ, _+_, _<_, _≤_, add-one, arith, length, getD, set, drop, length-set, length-drop, drop-of-length-le, sets}
+use Rattle.base.proofs.Prelude.{drop-cons}
+use Rattle.listing.specs.Lines.{PutBehind}
 
--- the byte at j stored, those behind it are left
-pub storing-one : (l : List ℕ) (i : ℕ) (xs : List ℕ) (j : ℕ) → j < length xs
-    → sets (set l i (getD xs j 0)) (i + 1) (drop (j + 1) xs) ≡ sets l i (drop j xs)
-storing-one l i xs j h = rw (add-one i, add-one j, drop-cons xs j 0 h)
+-- of the bytes to be put behind the first `len` of a text, those of xs from `from` on are left, to be stored from `to` on
+pub record Storing (text₀ : List ℕ) (len : ℕ) (all xs text : List ℕ) (from to : ℕ) : Type 0 where
+  pub left : sets text to (drop from xs) ≡ sets text₀ len all
+  pub count : to + length (drop from xs) ≡ len + length all
+  pub size : length text ≡ length text₀
 
--- past the last byte nothing is left
-pub stored-all : (l : List ℕ) (i : ℕ) (xs : List ℕ) (j : ℕ) → length xs ≤ j → sets l i (drop j xs) ≡ l
-stored-all l i xs j h = rw (drop-of-length-le xs h)
+module _ {text₀ : List ℕ} {len : ℕ} {all xs text : List ℕ} {from to : ℕ} (s : Storing text₀ len all xs text from to) where
+  pub storing-room : from < length xs → len + length all ≤ length text₀ → to < length text
+  storing-room h fits = omega (arith, s .count, s .size, length-drop from xs)
+
+  pub storing-one : from < length xs → Storing text₀ len all xs (set text to (getD xs from 0)) (from + 1) (to + 1)
+  storing-one h =
+      let e = drop-cons xs from 0 h in
+      record {
+        left = rw (add-one to, add-one from) (rw e at (s .left));
+        count = rw (add-one from) (omega (arith, rw e at (s .count)));
+        size = rw length-set (s .size);
+      }
+
+  pub stored-all : length xs ≤ from → PutBehind text₀ len all to text
+  stored-all h = let none = drop-of-length-le xs h in (omega (arith, rw none at (s .count)), rw none at (s .left))

@@ -1,21 +1,12 @@
 -- The text of a part as its functions put it: that of the first record by its tests, that of a block as lines and what a cut record adds.
-use mathlib.Core.Path.{_≡_, sym, ap, _∙_}
-use mathlib.Core.Bool.{_&&_}
-use mathlib.Core.List.{List}
-use Prim.Native.Nat.{ℕ, _+_, _%_, _<_, _≤_}
-use native.Mathlib.Omega.{arith}
-use lib.Dec.{eqb, leb}
-use lib.ListN.{length, length-append}
-use lib.Seq.{sets, length-sets}
-use borrow.Author.Tests.{lt-ltb, le-ltb, eq-eqb, ne-eqb}
-use Rattle.base.proofs.Bools.{by-test}
+use Rattle.base.proofs.Prelude.{_≡_, sym, ap, _∙_, _&&_, List, ℕ, _+_, _%_, _<_, _≤_, arith, eqb, leb, length, length-append, sets, length-sets, lt-ltb}
+use Rattle.base.proofs.Prelude.{le-ltb, eq-eqb, ne-eqb, by-test}
 use Rattle.io.specs.Counts.{Counts}
 use Rattle.io.proofs.Counting.{counts}
 use Rattle.codec.proofs.Stores.{sets-then}
 use Rattle.calls.specs.declared.Command.{Command}
 use Rattle.calls.specs.Calls.{answerNumber}
-use Rattle.meter.specs.declared.Meter.{Meter}
-use Rattle.meter.specs.declared.Outcome.{Outcome}
+use Rattle.meter.specs.declared.{Meter.Meter, Outcome.Outcome}
 use Rattle.replay.specs.declared.ListingLine.{ListingLine}
 use Rattle.replay.specs.Replay.{firstIn, recordsFrom, startOf, meterAfter}
 use Rattle.replay.specs.Listing.{lineOf}

@@ -1,7 +1,5 @@
 -- The laws of a register, bit by bit, through the numbers that 32 bits make.
-use mathlib.Core.Path.{_≡_, refl, sym, ap, ap₂, _∙_}
-use mathlib.Core.Bool.{Bool, not, _&&_, _||_}
-use Prim.Native.Nat.{ℕ, _^_, _<_}
+use Rattle.base.proofs.Prelude.{_≡_, refl, sym, ap, ap₂, _∙_, Bool, _&&_, _||_, not, ℕ, _^_, _<_}
 use lib.Bits.{bitOr, bitAnd}
 use Rattle.base.specs.Bits.{bit, number, inverse}
 use Rattle.base.proofs.Bits.{number-bits, number-or, number-lt, bit-number, clear-by}

@@ -1,6 +1,4 @@
-use mathlib.Core.Path.{ap, _∙_}
-use lib.IntN.{ℤ}
-use borrow.Author.Needs.{needs}
+use Rattle.base.proofs.Prelude.{ap, _∙_, ℤ, needs}
 use Rattle.base.proofs.Tests.{tests}
 use Rattle.calls.specs.declared.Parsed.the-variants.{Ok}
 use Rattle.calls.specs.declared.Call.the-variants.{Sample, SetLimiter}

@@ -1,5 +1,4 @@
-use borrow.Author.Needs.{needs}
-use mathlib.Core.Path.{sym}
+use Rattle.base.proofs.Prelude.{sym, needs}
 use Rattle.codec.proofs.Numbers.{numAt-byte, numAt-halves, numAt-past}
 use Rattle.codec.proofs.get_u16.Statement.{statement}
 use Rattle.codec.proofs.get_u16.Tie as tie

@@ -4,28 +4,7 @@ use borrow.Author.Needs.{needs}
 use Rattle.runs.proofs.main.Statement.{statement}
 use Rattle.runs.proofs.main.Tie as tie
 
-abbrev Inv-loop : tie.InvT-loop
-Inv-loop count i₀ i = Unit {0}
-
-abbrev μ-loop : tie.MeasureT-loop
-μ-loop count i₀ i = count - i
-
-arg-count-requires : tie.Need-arg-count-requires Inv-loop μ-loop
-arg-count-requires c κs = tt
-
-loop-holds : tie.Need-loop-holds Inv-loop μ-loop
-loop-holds c = tt
-
-print-argument-requires : tie.Need-print-argument-requires Inv-loop μ-loop
-print-argument-requires c κs = tt
-
-loop-again : tie.Need-loop-again Inv-loop μ-loop
-loop-again c = tt
-
-returns : tie.Need-returns Inv-loop μ-loop
-returns c = tt
-
 pub main-spec : {M : Type 1} → statement M
 main-spec =
-    tie.close
-    (tie.spec Inv-loop μ-loop arg-count-requires loop-holds print-argument-requires (λ c. search needs) (λ c. search needs) loop-again returns)
+    tie.close (tie.spec (λ count i₀ i. Unit {0}) (λ count i₀ i. count - i) (λ c κs. tt) (λ c. tt) (λ c κs. tt) (λ c. search needs)
+    (λ c. search needs) (λ c. tt) (λ c. tt))

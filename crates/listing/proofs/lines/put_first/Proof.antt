@@ -1,9 +1,4 @@
-use mathlib.Core.List.{List}
-use Prim.Native.Nat.{ℕ}
-use mathlib.Core.Path.{_≡_}
-use native.Mathlib.Omega.{arith}
-use lib.ListN.{length}
-use borrow.Author.Needs.{needs}
+use Rattle.base.proofs.Prelude.{_≡_, List, ℕ, arith, length, needs}
 use Rattle.replay.specs.Replay.{firstIn}
 use Rattle.listing.proofs.Texts.{cut-length, first-progress, short-first, bad-first, line-first, first-put}
 use Rattle.listing.proofs.lines.put_first.Statement.{statement}
