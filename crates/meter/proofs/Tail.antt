@@ -27,7 +27,8 @@ use Rattle.machine.specs.Machine.{Change, Result, refusing, making}
 use Rattle.steps.specs.declared.Scalars.{Scalars}
 use Rattle.steps.specs.declared.Step.{Step}
 use Rattle.steps.specs.Scalars.{soundScalars}
-use Rattle.steps.specs.Step.{inPlaces, resultOf, stepOf}
+use Rattle.status.specs.Step.{inPlaces}
+use Rattle.steps.specs.Step.{resultOf, stepOf}
 use Rattle.meter.specs.declared.Meter.{Meter}
 use Rattle.meter.specs.declared.Outcome.{Outcome}
 use Rattle.meter.specs.State.{scalarsOf, withLogs}

@@ -1,10 +1,8 @@
--- The machine's results by what the code learns on its way: the sign of a threshold, what the event lookup answers, what the limiter tells of a
--- sample.
+-- The machine's results by what the code learns on its way: the sign of a threshold, the status's step, what the limiter tells of a sample.
 use native.Mathlib.Omega.{arith}
 use mathlib.Core.Path.{_≡_, refl, ap}
 use mathlib.Core.Bool.{Bool, true, false, not}
 use mathlib.Core.List.{[], _∷_}
-use mathlib.Core.Option.{Option, none, some}
 use lib.IntN.{ℤ, pos, negsuc}
 use lib.Signed.{ltZ, leZ}
 use mir.Facts.{toZ-ofZ}
@@ -12,18 +10,21 @@ use mir.Val.{toZ, ofZ, SFits}
 use mir.Syntax.{w32}
 use borrow.Author.Tests.{le-leb, le-ltb}
 use Rattle.base.specs.Tests.{any, gathered}
-use Rattle.registers.specs.Register.{raised}
-use Rattle.events.specs.Table.{EventRow, foundOf}
-use Rattle.events.specs.declared.Found.{Found}
-use Rattle.events.specs.declared.Found.the-variants.{Listed, NotListed}
+use Rattle.events.specs.Table.{builtIn}
 use Rattle.control.specs.declared.Request.the-variants.{LocalDisconnect, LocalReconnect}
 use Rattle.limiter.specs.declared.Watched.{Watched}
+use Rattle.history.specs.Effects.{AnyCall}
+use Rattle.machine.specs.Values.{Values}
+use Rattle.machine.specs.Machine.{Result, refusing, making, result, owing, lineNow, moving, decided, afterSample}
+use Rattle.status.specs.declared.Status.{Status}
+use Rattle.status.specs.declared.StatusStep.{StatusStep}
+use Rattle.status.specs.Status.{statusValues}
+use Rattle.status.specs.Step.{statusStepOf}
+use Rattle.status.specs.Laws.{NoLimiter, resultWith}
+use Rattle.status.proofs.Limiters.{laws}
 use Rattle.steps.specs.declared.Scalars.{Scalars}
-use Rattle.steps.specs.declared.Step.{Step}
-use Rattle.machine.specs.Values.{Values, withAlarms, withErrors}
-use Rattle.machine.specs.Machine.{refusing, owing, lineNow, moving, decided, afterSample, occurring}
-use Rattle.steps.specs.Scalars.{valuesOf}
-use Rattle.steps.specs.Step.{stepFor, stepOf}
+use Rattle.steps.specs.Scalars.{valuesOf, statusOf}
+use Rattle.steps.specs.Step.{stepFor, stepOf, stepWith}
 
 -- ---- call 7: the code's test of the sign is the machine's
 sign : (z : ℤ) (b : Bool) → ltZ z (pos 0) ≡ b → leZ (pos 0) z ≡ not b
@@ -33,19 +34,17 @@ sign (negsuc a) b e = ap not e
 pub threshold-sign : (z : ℤ) (b : Bool) → SFits w32 z → ltZ (toZ w32 (ofZ w32 z)) (pos 0) ≡ b → leZ (pos 0) z ≡ not b
 threshold-sign z b h e = sign z b (rw (toZ-ofZ {w = w32} {z = z} h) at e)
 
--- ---- call 9
-abbrev pub reporting : Scalars → Found → Step
-reporting s (Listed e) =
-    stepFor
-    (owing
-    (withErrors (withAlarms (valuesOf s) (raised (s .alarms) (e .alarms))) (raised (s .errors) (e .errors)))
-    (e .log)
-    (lineNow (valuesOf s) (e .code) ∷ []))
-reporting s NotListed = stepOf s (refusing 6)
-
-pub reporting-found : (s : Scalars) (o : Option EventRow) → reporting s (foundOf o) ≡ stepOf s (occurring (valuesOf s) o)
-reporting-found s none = refl
-reporting-found s (some r) = refl
+-- ---- a call that touches no limiter, by the status's step
+module _ (s : Scalars) (c : AnyCall) (none : NoLimiter c) (t : Status) (x : StatusStep) where
+  pub by-status : t ≡ statusOf s → x ≡ statusStepOf t (result builtIn (statusValues t) c)
+      → stepWith (s .limiter) x ≡ stepOf s (result builtIn (valuesOf s) c)
+  by-status p q =
+      let ls = s .limiter ∷ [] in
+      rw (q, p, laws .limiters-left builtIn (statusValues (statusOf s)) ls c none) (go (result builtIn (statusValues (statusOf s)) c))
+    where
+      go : (r : Result) → stepWith (s .limiter) (statusStepOf (statusOf s) r) ≡ stepOf s (resultWith (s .limiter ∷ []) r)
+      go (refusing n) = refl
+      go (making k) = refl
 
 -- ---- call 1, of the one monitored value
 module _ (s : Scalars) (w : Watched) where

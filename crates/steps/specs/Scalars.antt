@@ -8,11 +8,20 @@ use Rattle.control.specs.Control.{soundControl}
 use Rattle.limiter.specs.declared.Limiter.{Limiter}
 use Rattle.limiter.specs.Limiter.{soundLimiter}
 use Rattle.machine.specs.Values.{Values}
+use Rattle.status.specs.declared.Status.{Status}
 use Rattle.steps.specs.declared.Scalars.{Scalars}
 
 -- the values of scalars
 abbrev pub valuesOf : Scalars → Values
 valuesOf s = record { control = s .control; limiters = s .limiter ∷ []; clock = s .clock; alarms = s .alarms; errors = s .errors }
+
+-- the part that every meter has: without the limiter
+abbrev pub statusOf : Scalars → Status
+statusOf s = record { control = s .control; clock = s .clock; alarms = s .alarms; errors = s .errors }
+
+-- that part with a limiter
+abbrev pub scalarsWith : Limiter → Status → Scalars
+scalarsWith l s = record { control = s .control; limiter = l; clock = s .clock; alarms = s .alarms; errors = s .errors }
 
 -- the first limiter of a list
 abbrev pub firstLimiter : List Limiter → Limiter

@@ -1,28 +1,22 @@
 -- What a call makes of the scalars, as the code has it: the next scalars, the answer, and what is done to the logs.
-use Prim.Native.Nat.{ℕ, _-_}
-use mathlib.Core.List.{List, [], _++_, map}
-use lib.ListN.{length, replicate}
+use mathlib.Core.List.{List, [], map}
+use lib.ListN.{length}
 use Rattle.events.specs.Table.{EventRow}
 use Rattle.logs.specs.Layout.{lineClock, lineCode}
 use Rattle.calls.specs.declared.Call.{Call}
 use Rattle.calls.specs.declared.Answer.the-variants.{Accepted, Refused}
 use Rattle.history.specs.OnePhase.{asCall}
 use Rattle.machine.specs.Machine.{Change, Result, refusing, making, result}
+use Rattle.limiter.specs.declared.Limiter.{Limiter}
+use Rattle.status.specs.declared.StatusStep.{StatusStep}
+use Rattle.status.specs.Step.{inPlaces}
 use Rattle.steps.specs.declared.Scalars.{Scalars}
 use Rattle.steps.specs.declared.Step.{Step}
-use Rattle.steps.specs.Scalars.{valuesOf, scalarsFrom}
+use Rattle.steps.specs.Scalars.{valuesOf, scalarsWith, scalarsFrom}
 
 -- what the machine makes of them
 abbrev pub resultOf : List EventRow → Scalars → Call → Result
 resultOf rows s c = result rows (valuesOf s) (asCall c)
-
--- the most lines that a call owes: a firing and the move that it tries, or call 8's two
-abbrev pub mostLines : ℕ
-mostLines = 2
-
--- numbers in as many places, zeros past them
-abbrev pub inPlaces : List ℕ → List ℕ
-inPlaces xs = xs ++ replicate (mostLines - length xs) 0
 
 -- a change: the lines' clocks and codes in arrays of so many places
 abbrev pub stepFor : Change → Step
@@ -41,3 +35,16 @@ stepFor k =
 abbrev pub stepOf : Scalars → Result → Step
 stepOf s (refusing n) = record { scalars = s; answer = Refused n; cleared = 0; log = 0; count = 0; clocks = inPlaces []; codes = inPlaces [] }
 stepOf s (making k) = stepFor k
+
+-- a step of the status, with a limiter
+abbrev pub stepWith : Limiter → StatusStep → Step
+stepWith l x =
+    record {
+      scalars = scalarsWith l (x .status);
+      answer = x .answer;
+      cleared = x .cleared;
+      log = x .log;
+      count = x .count;
+      clocks = x .clocks;
+      codes = x .codes;
+    }

@@ -14,10 +14,10 @@ watched-is c = c .sample .ensures .0 ∙ search needs
 returns : tie.Need-returns
 unfolding sampleResult eachFrom
 returns c =
-    let n = c .before .before .before in
+    let n = c .before .before .before .before .before in
     let w = n .before .before in
-    rw (← watched-is w, ← n .next-held .ensures)
-    (c .accepted .ensures ∙ after-none _ (w .sample .result) (not-true _ (c .before .if1 .taken)))
+    rw (← watched-is w, ← n .next-held .ensures, c .with .ensures, c .before .accepted .ensures, c .before .before .status .ensures)
+    (after-none _ (w .sample .result) (not-true _ (c .before .before .before .if1 .taken)))
 
 returns-2 : tie.Need-returns-2
 unfolding sampleResult eachFrom
@@ -37,5 +37,5 @@ returns-3 c =
 
 pub sample-spec : {M : Type 1} → statement M
 sample-spec =
-    tie.close (tie.spec (λ c κs. search needs) (λ c κs. search needs) (λ c κs. search needs) returns (λ c κs. search needs) returns-2
-    (λ c κs. search needs) returns-3)
+    tie.close (tie.spec (λ c κs. search needs) (λ c κs. search needs) (λ c κs. search needs) (λ c κs. search needs) (λ c κs. search needs) returns
+    (λ c κs. search needs) returns-2 (λ c κs. search needs) returns-3)

@@ -21,17 +21,26 @@ judged c = rw (same-number (c .before)) at (c .judge-limits .ensures)
 returns : tie.Need-returns
 unfolding limiterResult
 returns c =
-    let told = c .before .before in
-    rw (← judged (told .before .before), told .answer .given .1) (c .refused .ensures)
+    let told = c .before .before .before .before in
+    rw (← judged (told .before .before), told .answer .given .1, c .with .ensures, c .before .refused .ensures, c .before .before .status .ensures)
 
 returns-2 : tie.Need-returns-2
 unfolding limiterResult eachFrom
 returns-2 c =
-    let told = c .before .before in
+    let set = c .before .before .before in
+    let told = set .before in
     let answered = told .before .before in
-    rw (← judged answered, told .enum-told .given .1, c .logged .ensures, c .before .set .ensures, same-number (answered .before))
+    rw (
+      ← judged answered,
+      told .enum-told .given .1,
+      c .with2 .ensures,
+      c .before .logged .ensures,
+      c .before .before .status2 .ensures,
+      set .set .ensures,
+      same-number (answered .before),
+    )
 
 pub set-limiter-spec : {M : Type 1} → statement M
 set-limiter-spec =
-    tie.close (tie.spec (λ c κs. search needs) (λ c. search needs) (λ c κs. search needs) returns (λ c. search needs) (λ c κs. search needs)
-    (λ c κs. search needs) returns-2)
+    tie.close (tie.spec (λ c κs. search needs) (λ c. search needs) (λ c κs. search needs) (λ c κs. search needs) (λ c κs. search needs) returns
+    (λ c. search needs) (λ c κs. search needs) (λ c κs. search needs) (λ c κs. search needs) (λ c κs. search needs) returns-2)

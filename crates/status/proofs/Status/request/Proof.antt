@@ -1,0 +1,40 @@
+use mathlib.Core.Path.{_≡_, refl, _∙_}
+use mathlib.Core.List.{[], _∷_}
+use mathlib.Core.Logic.{inl, inr}
+use native.Mathlib.Omega.{arith}
+use types.Run.{OneOf}
+use denote.Enum.Declared.{tagOf}
+use borrow.Author.Needs.{needs}
+use Rattle.control.specs.declared.Decision.{Decision}
+use Rattle.control.specs.declared.Decision.the-variants.{Move, Stay, NotListed}
+use Rattle.control.proofs.Decision as decisions
+use Rattle.machine.specs.Machine.{moving, answering, requestResult}
+use Rattle.status.specs.declared.Status.{Status}
+use Rattle.status.specs.Status.{statusValues}
+use Rattle.status.specs.Step.{statusStepFor, statusStepOf}
+use Rattle.status.proofs.Limiters.{laws}
+use Rattle.status.proofs.Status.request.Statement.{statement}
+use Rattle.status.proofs.Status.request.Tie as tie
+
+-- what is listed is carried out
+listed : (s : Status) (d : Decision) → OneOf (0 ∷ 1 ∷ []) (tagOf decisions.the-type d)
+    → statusStepFor (moving (statusValues s) [] d) ≡ statusStepOf s (answering (statusValues s) d)
+listed s (Move t c o) h = refl
+listed s Stay h = refl
+listed s NotListed (inl e) = absurd (omega arith)
+listed s NotListed (inr e) = absurd (omega arith)
+
+returns : tie.Need-returns
+unfolding requestResult
+returns c = (rw (← c .before .before .before .decide .ensures, c .before .enum-told .given .1) (c .refused .ensures), laws)
+
+returns-2 : tie.Need-returns-2
+unfolding requestResult
+returns-2 c =
+    let d = c .before .before .decide in
+    (rw (← d .ensures) (c .switched .ensures ∙ listed (c .before .before .before .args .self) (d .result) (c .before .match .keys2)), laws)
+
+pub request-spec : {M : Type 1} → statement M
+request-spec =
+    tie.close
+    (tie.spec (λ c κs. search needs) (λ c. search needs) (λ c κs. search needs) (λ c κs. search needs) returns returns-2)

@@ -1,9 +1,0 @@
-use borrow.Author.Needs.{needs}
-use Rattle.steps.proofs.Scalars.moved.Statement.{statement}
-use Rattle.steps.proofs.Scalars.moved.Tie as tie
-
-returns : tie.Need-returns
-returns c = rw (c .moved .ensures)
-
-pub moved-spec : {M : Type 1} → statement M
-moved-spec = tie.close (tie.spec (λ c κs. search needs) returns)

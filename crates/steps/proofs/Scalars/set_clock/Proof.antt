@@ -1,9 +1,0 @@
-use borrow.Author.Needs.{needs}
-use Rattle.steps.proofs.Scalars.set_clock.Statement.{statement}
-use Rattle.steps.proofs.Scalars.set_clock.Tie as tie
-
-returns : tie.Need-returns
-returns c = rw (c .logged-two .ensures, c .before .clear .ensures)
-
-pub set-clock-spec : {M : Type 1} → statement M
-set-clock-spec = tie.close (tie.spec (λ c κs. search needs) (λ c κs. search needs) returns)

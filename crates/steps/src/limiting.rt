@@ -1,0 +1,78 @@
+// The calls that touch the limiter: its settings, and the samples that make it act.
+ghost use mathlib.Core.Path.{_≡_};
+ghost use mathlib.Core.List.{[], _∷_};
+ghost use Rattle.machine.specs.Settings.{limitsAnswer};
+ghost use Rattle.machine.specs.Machine.{lineNow, moving, decided, sampleResult, limiterResult};
+ghost use Rattle.steps.specs.Scalars.{valuesOf};
+ghost use Rattle.steps.specs.Step.{stepFor, stepOf};
+use crate::Scalars;
+use crate::Step;
+use calls::Answer;
+use control::Decision;
+use control::Request;
+
+// What a limiter setting is answered, of a fresh meter and of a call: refused with 4 if the threshold is
+// negative, with 5 if a duration is not 1 to 86,400.
+pub fn judge_limits(threshold: i32, over: u32, under: u32) -> Answer
+    ensures { λ r. ⌜ r ≡ limitsAnswer (threshold ∷ []) over under ⌝ }
+{
+    if threshold < 0 {
+        return Answer::Refused(4);
+    }
+    if !(limiter::is_duration(over) & limiter::is_duration(under)) {
+        return Answer::Refused(5);
+    }
+    Answer::Accepted
+}
+
+impl Scalars {
+    pub(crate) fn set_limiter(mut self, threshold: i32, over: u32, under: u32) -> Step
+        ensures { λ r. ⌜ r ≡ stepOf self (limiterResult (valuesOf self) (threshold ∷ []) over under) ⌝ }
+    {
+        let answer = judge_limits(threshold, over, under);
+        if let Answer::Refused(number) = answer {
+            return self.with(self.status().refused(number));
+        }
+        self.limiter = self.limiter.set(threshold, over, under);
+        self.with(self.status().logged(3, 67))
+    }
+
+    // The limiter's firing: its own line, then the request that it makes. A mode that is not listed
+    // for the request is no refusal here: nothing is tried.
+    fn fired(self, code: u8, request: Request) -> Step
+        ensures { λ r. ⌜ r ≡ stepFor (moving (valuesOf self) (lineNow (valuesOf self) code ∷ []) (decided (valuesOf self) request)) ⌝ }
+    {
+        let status = self.status();
+        let decision = status.decide(request);
+        match decision {
+            Decision::Move {
+                to,
+                code: next,
+                opens,
+            } => self.with(
+                status
+                    .moved(to, opens)
+                    .logged_two(3, self.clock, code, next),
+            ),
+            Decision::Stay => self.with(status.logged(3, code)),
+            Decision::NotListed => self.with(status.logged(3, code)),
+        }
+    }
+
+    // The clock goes on before anything is logged: a line bears the clock after the sample.
+    pub(crate) fn sample(mut self, power: i32) -> Step
+        ensures { λ r. ⌜ r ≡ stepFor (sampleResult (valuesOf self) (power ∷ [])) ⌝ }
+    {
+        let watched = self.limiter.sample(power);
+        let limiter = watched.limiter;
+        self.limiter = limiter;
+        self.clock = base::next_held(self.clock);
+        if !watched.fired {
+            return self.with(self.status().accepted(3));
+        }
+        if limiter.exceeded {
+            return self.fired(65, Request::LocalDisconnect);
+        }
+        self.fired(66, Request::LocalReconnect)
+    }
+}
