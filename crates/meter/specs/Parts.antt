@@ -2,6 +2,8 @@
 use Prim.Native.Nat.{ℕ}
 use mathlib.Core.Bool.{cond}
 use mathlib.Core.List.{List, map}
+use denote.Ref.{RefT, now}
+use denote.Triple.Both.{Both}
 use Rattle.events.specs.Table.{EventRow}
 use Rattle.logs.specs.declared.Logs.{Logs}
 use Rattle.logs.specs.Layout.{lineClock, lineCode, extendedArrays, zeroedArrays}
@@ -12,6 +14,7 @@ use Rattle.calls.specs.declared.Parsed.{Parsed}
 use Rattle.calls.specs.declared.Parsed.the-variants.{Ok, NoKind}
 use Rattle.calls.specs.Calls.{callOf}
 use Rattle.machine.specs.Machine.{Change, Result, refusing, making}
+use Rattle.steps.specs.declared.Scalars.{Scalars}
 use Rattle.steps.specs.Scalars.{scalarsFrom}
 use Rattle.steps.specs.Step.{resultOf}
 use Rattle.meter.specs.declared.Meter.{Meter}
@@ -20,9 +23,21 @@ use Rattle.meter.specs.declared.parts.Answered.{Answered}
 use Rattle.meter.specs.State.{scalarsOf, withLogs}
 use Rattle.meter.specs.Sound.{soundMeter}
 
--- the outcome of what a call on a record in parts answers and the arrays that it leaves
+-- an array that is lent for writing: as it was at the call, and as it is left
+abbrev pub Lent : Type 0
+Lent = Both (RefT (List ℕ)) (RefT (List ℕ))
+
+-- the record of these scalars and the arrays as they were
+abbrev pub given : Scalars → Lent → Lent → Lent → Meter
+given s counts clocks codes = withLogs s (now (counts .entry)) (now (clocks .entry)) (now (codes .entry))
+
+-- the outcome of what a call on a record in parts answers and these arrays
 abbrev pub outcomeOf : Answered → List ℕ → List ℕ → List ℕ → Outcome
 outcomeOf a counts clocks codes = record { meter = withLogs (a .scalars) counts clocks codes; answer = a .answer }
+
+-- and the arrays as they are left
+abbrev pub handedBack : Answered → Lent → Lent → Lent → Outcome
+handedBack a counts clocks codes = outcomeOf a (now (counts .exit)) (now (clocks .exit)) (now (codes .exit))
 
 -- the arrays of the logs after a change: the clear, then the lines
 abbrev pub arraysAfter : Logs → Change → Logs
