@@ -11,8 +11,8 @@ use Rattle.calls.specs.declared.Call.the-variants.{SetAlarmFilter}
 use Rattle.calls.specs.Calls.{answerNumber}
 use Rattle.history.specs.Examples.{exampleSettings}
 use Rattle.meter.specs.declared.Meter.{Meter}
-use Rattle.steps.specs.declared.Scalars.{Scalars}
-use Rattle.steps.specs.Scalars.{scalarsFrom, withControl, withLimiter}
+use Rattle.machine.specs.Values.{Values, withControl, withLimiters}
+use Rattle.steps.specs.Scalars.{scalarsFrom}
 use Rattle.meter.specs.State.{withLogs}
 use Rattle.meter.specs.Sound.{soundMeter}
 use Rattle.meter.specs.Machine.{applied}
@@ -30,9 +30,9 @@ good = (true, 0)
 abbrev pub bad : Bool × ℕ
 bad = (false, 12)
 
--- the scalars that are varied: the worked example's fresh ones, mode 5
-abbrev pub usual : Scalars
-usual = scalarsFrom (freshState exampleSettings .values)
+-- the values that are varied: the worked example's fresh ones, mode 5
+abbrev pub usual : Values
+usual = freshState exampleSettings .values
 
 -- the 96 places of logs without lines
 abbrev pub blank : List ℕ
@@ -42,22 +42,29 @@ blank = replicate 96 0
 abbrev pub noneHeld : List ℕ
 noneHeld = 0 ∷ 0 ∷ 0 ∷ []
 
--- a record of this mode and switch
+-- a record of these values, without lines
+abbrev pub ofValues : Values → Meter
+ofValues v = withLogs (scalarsFrom v) noneHeld blank blank
+
+-- of this mode and switch
 abbrev pub ofControl : ℕ → ℕ → Meter
-ofControl mode switch = withLogs (withControl usual (record { mode = mode; state = switch; openings = 0 })) noneHeld blank blank
+ofControl mode switch = ofValues (withControl usual (record { mode = mode; state = switch; openings = 0 }))
 
 -- of this threshold, Over, Under, Exceeded and Run
 abbrev pub ofLimiter : ℤ → ℕ → ℕ → Bool → ℕ → Meter
-ofLimiter t o u e n =
-    withLogs (withLimiter usual (record { threshold = t; over = o; under = u; exceeded = e; run = n })) noneHeld blank blank
+ofLimiter t o u e n = ofValues (withLimiters usual (record { threshold = t; over = o; under = u; exceeded = e; run = n } ∷ []))
+
+-- a record with these counts, clocks and codes
+abbrev pub ofLogs : List ℕ → List ℕ → List ℕ → Meter
+ofLogs = withLogs (scalarsFrom usual)
 
 -- with one line in log n, of this code
 abbrev pub ofLine : ℕ → ℕ → Meter
-ofLine n code = withLogs usual (set noneHeld (n - 1) 1) blank (set blank (place n) code)
+ofLine n code = ofLogs (set noneHeld (n - 1) 1) blank (set blank (place n) code)
 
 -- with 32 lines of code 255 in the places of each log, and these counts
 abbrev pub ofCounts : List ℕ → Meter
-ofCounts counts = withLogs usual counts (replicate 96 1) (replicate 96 255)
+ofCounts counts = ofLogs counts (replicate 96 1) (replicate 96 255)
 
 -- the places of one line in each log
 abbrev pub oneEach : List ℕ
@@ -67,7 +74,7 @@ oneEach =
 
 -- with one line in each log, of these clocks and codes
 abbrev pub ofLines : List ℕ → List ℕ → Meter
-ofLines clocks codes = withLogs usual (1 ∷ 1 ∷ 1 ∷ []) clocks codes
+ofLines = ofLogs (1 ∷ 1 ∷ 1 ∷ [])
 
 -- the first place of each log, which the count covers, then the first and the last that it does not
 abbrev pub places : List ℕ

@@ -3,7 +3,6 @@ use mathlib.Core.Bool.{Bool, false, _&&_}
 use mathlib.Core.List.{List, [], _∷_}
 use lib.IntN.{pos}
 use lib.ListN.{getD}
-use Rattle.control.specs.declared.Control.{Control}
 use Rattle.control.specs.Control.{soundControl}
 use Rattle.limiter.specs.declared.Limiter.{Limiter}
 use Rattle.limiter.specs.Limiter.{soundLimiter}
@@ -30,14 +29,6 @@ firstLimiter ls = getD ls 0 (record { threshold = pos 0; over = 0; under = 0; ex
 -- the scalars of values with one limiter
 abbrev pub scalarsFrom : Values → Scalars
 scalarsFrom v = record { control = v .control; limiter = firstLimiter (v .limiters); clock = v .clock; alarms = v .alarms; errors = v .errors }
-
--- with another control
-abbrev pub withControl : Scalars → Control → Scalars
-withControl s c = record { control = c; limiter = s .limiter; clock = s .clock; alarms = s .alarms; errors = s .errors }
-
--- with another limiter
-abbrev pub withLimiter : Scalars → Limiter → Scalars
-withLimiter s l = record { control = s .control; limiter = l; clock = s .clock; alarms = s .alarms; errors = s .errors }
 
 -- 'A record is sound if these ranges hold, mode 0 has switch 1, Run is below Over (not Exceeded) or below Under (Exceeded) ..': control and limiter;
 -- the others are of 32 bits by their types
