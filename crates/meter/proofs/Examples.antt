@@ -1,4 +1,4 @@
--- The examples, each by computing it.
+-- The examples and the near misses, each by computing it.
 use mathlib.Core.Path.{refl}
 use Rattle.base.specs.Tests.{among, every, any, below, gathered, eachFrom}
 use Rattle.events.specs.Line.{newest}
@@ -16,9 +16,30 @@ use Rattle.steps.specs.Scalars.{soundScalars}
 use Rattle.meter.specs.Sound.{soundMeter}
 use Rattle.meter.specs.Machine.{applied, recordAfter}
 use Rattle.meter.specs.Examples.{lineNumbersFrom, Examples}
+use Rattle.meter.specs.NearMisses.{NearMisses}
 
 pub examples : Examples
 unfolding lineNumbersFrom recordAfter applied soundMeter soundScalars soundControl soundLimiter soundLogs soundArrays soundLog ownCodes zeroPast
     padded flat laid listsOf changed newest among every any below gathered eachFrom builtIn lookup besides mayHold switchTable decision modeDecision
     watched requestResult sampleResult modeResult limitsAnswer limiterResult eventResult scriptResult
 examples = record { lines = refl; log = refl; power = refl; taken = refl; refused = refl; full = refl; dropped = refl }
+
+pub near-misses : NearMisses
+unfolding applied soundMeter soundScalars soundControl soundLimiter soundLogs soundArrays soundLog ownCodes zeroPast among below builtIn lookup besides mayHold
+near-misses =
+    record {
+      modes = refl;
+      switches = refl;
+      mode-zero = refl;
+      thresholds = refl;
+      overs = refl;
+      unders = refl;
+      runs = refl;
+      exceeded-runs = refl;
+      standard-codes = refl;
+      fraud-codes = refl;
+      disconnect-codes = refl;
+      counts = refl;
+      clocks-past = refl;
+      codes-past = refl;
+    }

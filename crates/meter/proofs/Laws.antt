@@ -7,10 +7,9 @@ use Rattle.events.specs.Table.{EventRow, builtIn, lawful}
 use Rattle.events.proofs.Rule.{built-in-lawful}
 use Rattle.meter.specs.Laws.{LawsOf, Laws}
 use Rattle.meter.proofs.Values.{record-of-state, state-of-record}
-use Rattle.meter.proofs.Answers.{applied-answer, refused-same, commanded-same}
 use Rattle.meter.proofs.Tail.{in-parts, sound-in-parts, command-in-parts}
-use Rattle.meter.proofs.Preserved.{applied-sound, reached-sound}
-use Rattle.meter.proofs.Simulates.{simulates}
+use Rattle.meter.proofs.Preserved.{applied-answer, refused-same, commanded-same, applied-sound}
+use Rattle.meter.proofs.Simulates.{simulates, reached-sound}
 
 laws-of : (rows : List EventRow) → every lawful rows ≡ true → LawsOf rows
 laws-of rows table =
@@ -24,7 +23,7 @@ laws-of rows table =
       answers = applied-answer rows;
       refused-same = refused-same rows;
       command-refused-same = commanded-same rows;
-      reached-sound = reached-sound rows table;
+      reached-sound = λ f calls t i. reached-sound rows table f t calls i;
       simulates = λ f calls t i. simulates rows table f t calls i;
     }
 

@@ -1,10 +1,8 @@
 pub mod Ranges
 pub mod Values
-pub mod Answers
 pub mod Preserved
 pub mod Simulates
 pub mod Laws
 pub mod Tail
 pub mod Accepting
 pub mod Examples
-pub mod NearMisses

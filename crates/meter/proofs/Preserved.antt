@@ -1,7 +1,8 @@
--- Every call keeps a sound record sound, and the fresh meter is sound.
-use mathlib.Core.Path.{_≡_, refl, _∙_}
+-- A call on a record: its answer, by the account's rule of refusals; on a refusal the record that came in; and a sound record stays sound.
+use mathlib.Core.Path.{_≡_, _∙_, refl, ap, sym}
 use mathlib.Core.Bool.{true}
-use mathlib.Core.List.{List, [], _∷_, _++_}
+use mathlib.Core.List.{List, [], _++_}
+use Prim.Native.Nat.{ℕ}
 use native.Mathlib.Omega.{arith}
 use lib.ListN.{length}
 use Rattle.base.specs.Tests.{every}
@@ -14,26 +15,75 @@ use Rattle.logs.specs.Layout.{Sized, laid, listsOf, soundLogs}
 use Rattle.logs.proofs.Read.{read-short, read-three}
 use Rattle.logs.proofs.Kept.{length-changed, changed-short}
 use Rattle.calls.specs.declared.Call.{Call}
-use Rattle.calls.specs.Calls.{InRange, AllInRange}
-use Rattle.history.specs.OnePhase.{Fresh, asFresh, asCall}
+use Rattle.calls.specs.Calls.{InRange, callOf}
+use Rattle.calls.specs.declared.Answer.the-variants.{Refused}
+use Rattle.calls.specs.declared.Command.{Command}
+use Rattle.calls.specs.declared.Parsed.{Parsed}
+use Rattle.calls.specs.declared.Parsed.the-variants.{Ok, NoKind}
+use Rattle.history.specs.OnePhase.{asCall}
+use Rattle.history.specs.Effects.{Reading, refused, accepted, reading}
 use Rattle.machine.specs.Sound.{soundState}
-use Rattle.machine.specs.Machine.{Change, Result, refusing, making, stateAfter}
+use Rattle.machine.specs.Machine.{Change, Result, refusing, making, stateAfter, result}
 use Rattle.machine.specs.Laws.{afterResult}
-use Rattle.machine.proofs.Answers.{either}
-use Rattle.machine.proofs.Preserved.{kept-sound, fresh-sound}
+use Rattle.machine.proofs.Answers.{either, by-reading}
+use Rattle.machine.proofs.Preserved.{kept-sound}
 use Rattle.machine.proofs.Number.{number-kept}
-use Rattle.steps.specs.Scalars.{soundScalars}
+use Rattle.machine.specs.Values.{State}
+use Rattle.machine.proofs.Effects.{readResult}
+use Rattle.steps.specs.Scalars.{soundScalars, valuesOf}
 use Rattle.steps.specs.Step.{resultOf}
 use Rattle.meter.specs.declared.Meter.{Meter}
 use Rattle.meter.specs.declared.Outcome.{Outcome}
 use Rattle.meter.specs.State.{stateOf, scalarsOf, recordOf}
 use Rattle.meter.specs.Sound.{soundMeter}
-use Rattle.meter.specs.Machine.{carriedOut, applied, recordAfter}
-use Rattle.meter.specs.Settings.{Settings}
-use Rattle.meter.specs.Fresh.{freshState}
-use Rattle.meter.proofs.Values.{laid-sized, state-sound, record-sound, record-sized}
-use Rattle.meter.proofs.Ranges.{settings, call-range}
+use Rattle.meter.specs.Machine.{carriedOut, applied, performed, commanded}
+use Rattle.meter.proofs.Values.{laid-sized, state-sound, record-sound, state-of-record}
+use Rattle.meter.proofs.Ranges.{call-range}
+use Rattle.meter.specs.Laws.{answerOf}
 
+-- each number under its condition only
+read-answer : (m : Meter) (x : Reading) → carriedOut m (readResult (valuesOf (scalarsOf m)) x) .answer ≡ answerOf x
+read-answer m (refused n) = refl
+read-answer m (accepted e) = refl
+
+module _ (rows : List EventRow) (m : Meter) (c : Call) where
+  pub applied-answer : soundMeter rows m ≡ true → applied rows m c .answer ≡ answerOf (reading rows (m .control .mode) (asCall c))
+  unfolding applied
+  applied-answer e = rw (e, by-reading rows (valuesOf (scalarsOf m)) (asCall c)) (read-answer m (reading rows (m .control .mode) (asCall c)))
+
+-- ---- on any refusal the record is the one that came in
+kept-same : (m : Meter) (r : Result) (n : ℕ) → carriedOut m r .answer ≡ Refused n → carriedOut m r .meter ≡ m
+kept-same m (refusing k) n h = refl
+kept-same m (making k) n h = cc
+
+module _ (rows : List EventRow) (m : Meter) where
+  pub refused-same : (c : Call) (n : ℕ) → applied rows m c .answer ≡ Refused n → applied rows m c .meter ≡ m
+  unfolding applied
+  refused-same c n =
+      either (λ (o : Outcome). o .answer ≡ Refused n → o .meter ≡ m) (soundMeter rows m) (λ e h. kept-same m (resultOf rows (scalarsOf m) c) n h) (λ e h. refl)
+
+  performed-same : (p : Parsed) (n : ℕ) → performed rows m p .answer ≡ Refused n → performed rows m p .meter ≡ m
+  performed-same (Ok c) n h = refused-same c n h
+  performed-same NoKind n h = refl
+
+  pub commanded-same : (c : Command) (n : ℕ) → commanded rows m c .answer ≡ Refused n → commanded rows m c .meter ≡ m
+  unfolding commanded
+  commanded-same c = performed-same (callOf c)
+
+-- ---- the machine on a laid-out record
+pub applied-state : (rows : List EventRow) (v : State) → length (v .values .limiters) ≡ 1 → soundState rows v ≡ true → (c : Call)
+    → applied rows (recordOf v) c .meter ≡ recordOf (afterResult v (result rows (v .values) (asCall c)))
+unfolding applied
+applied-state rows v one e c =
+    rw (record-sound rows v one e)
+    (go (resultOf rows (scalarsOf (recordOf v)) c)
+    ∙ ap (λ (w : State). recordOf (afterResult w (result rows (w .values) (asCall c)))) (state-of-record rows v one e))
+  where
+    go : (r : Result) → carriedOut (recordOf v) r .meter ≡ recordOf (afterResult (stateOf (recordOf v)) r)
+    go (refusing n) = ap recordOf (sym (state-of-record rows v one e))
+    go (making k) = refl
+
+-- ---- every call keeps a sound record sound
 module _ (rows : List EventRow) (all : every lawful rows ≡ true) (m : Meter) (c : Call) (i : InRange c) (z : Sized (m .logs)) where
   pub applied-sound : soundMeter rows m ≡ true → soundMeter rows (applied rows m c .meter) ≡ true
   unfolding applied
@@ -66,18 +116,3 @@ applied-sized rows m c z =
     go : (r : Result) → soundLogs rows (m .logs) ≡ true → Sized (carriedOut m r .meter .logs)
     go (refusing n) e = z
     go (making r) e = after-sized rows (m .logs) r z e
-
--- each record of a list of calls, accepted or refused
-module _ (rows : List EventRow) (all : every lawful rows ≡ true) where
-  run-sound : (m : Meter) (calls : List Call) → Sized (m .logs) → AllInRange calls → soundMeter rows m ≡ true
-      → soundMeter rows (recordAfter rows m calls) ≡ true
-  unfolding recordAfter
-  run-sound m [] z i e = e
-  run-sound m (c ∷ calls) z i e =
-      run-sound (applied rows m c .meter) calls (applied-sized rows m c z) (i .1) (applied-sound rows all m c (i .0) z e)
-
-  pub reached-sound : (f : Fresh) (calls : List Call) → Settings f → AllInRange calls
-      → soundMeter rows (recordAfter rows (recordOf (freshState f)) calls) ≡ true
-  reached-sound f calls h i =
-      let sound = fresh-sound rows (asFresh f) (settings f h) in
-      run-sound (recordOf (freshState f)) calls (record-sized rows (freshState f) refl sound) i (record-sound rows (freshState f) refl sound)

@@ -16,12 +16,14 @@ use Rattle.machine.specs.Holding.{valuesHolding}
 use Rattle.machine.proofs.Simulates.{fresh-values, next, named-sound}
 use Rattle.meter.specs.declared.Meter.{Meter}
 use Rattle.meter.specs.State.{recordOf}
+use Rattle.meter.specs.Sound.{soundMeter}
 use Rattle.meter.specs.Machine.{recordAfter}
 use Rattle.meter.specs.Settings.{Settings}
 use Rattle.meter.specs.Fresh.{freshState}
 use Rattle.meter.specs.Holding.{holding}
+use Rattle.meter.proofs.Values.{record-sound}
 use Rattle.meter.proofs.Ranges.{settings, call-range, calls-range}
-use Rattle.meter.proofs.Answers.{applied-state}
+use Rattle.meter.proofs.Preserved.{applied-state}
 
 module _ (rows : List EventRow) (table : every lawful rows ≡ true) (f : Fresh) (t : Settings f) where
   -- the values that the account of a list names; newest call first
@@ -51,3 +53,6 @@ module _ (rows : List EventRow) (table : every lawful rows ≡ true) (f : Fresh)
   pub account-sound : (calls : List Call) → AllInRange calls → soundState rows (holding (account rows f calls)) ≡ true
   unfolding numbersFrom
   account-sound calls i = named-sound rows table (asFresh f) (settings f t) (reverse (map asCall calls)) (calls-range calls i)
+
+  pub reached-sound : (calls : List Call) → AllInRange calls → soundMeter rows (recordAfter rows (recordOf (freshState f)) calls) ≡ true
+  reached-sound calls i = rw (simulates calls i) (record-sound rows (holding (account rows f calls)) refl (account-sound calls i))

@@ -2,11 +2,11 @@
 use Prim.Native.Nat.{ℕ, _≤_}
 use native.Mathlib.Omega.{arith}
 use mathlib.Core.Path.{_≡_, refl, ap, _∙_, sym}
-use mathlib.Core.Bool.{Bool, true, false, _&&_, cond}
+use mathlib.Core.Bool.{Bool, true, _&&_, cond}
 use mathlib.Core.List.{List, map}
 use lib.ListN.{length, take, length-map, length-append}
 use lib.Seq.{take-at, length-take-le}
-use Rattle.base.proofs.Bools.{and-right}
+use Rattle.base.proofs.Bools.{by-test, and-right}
 use Rattle.events.specs.Line.{Line}
 use Rattle.events.specs.Table.{EventRow}
 use Rattle.logs.specs.declared.Logs.{Logs}
@@ -34,7 +34,7 @@ use Rattle.meter.specs.declared.Outcome.{Outcome}
 use Rattle.meter.specs.State.{scalarsOf, withLogs}
 use Rattle.meter.specs.Sound.{soundMeter}
 use Rattle.meter.specs.Machine.{carriedOut, applied, performed, commanded}
-use Rattle.meter.specs.Parts.{outcomeOf, leftIn, carriedOutInParts, appliedInParts, performedInParts, commandedInParts}
+use Rattle.meter.specs.Parts.{outcomeOf, arraysAfter, leftIn, carriedOutInParts, appliedInParts, performedInParts, commandedInParts}
 
 -- ---- the lines of a step, as the code has them
 module _ (f : Line → ℕ) (xs : List Line) where
@@ -50,27 +50,14 @@ pub sound-is : (rows : List EventRow) (m : Meter) (a b : Bool) → a ≡ soundSc
 unfolding soundMeter soundLogs
 sound-is rows m a b p q = rw (p, q)
 
-pub not-sound : (rows : List EventRow) (m : Meter) (c : Call) → soundMeter rows m ≡ false
-    → _≡_ {A = Outcome} (record { meter = m; answer = Refused 12 }) (appliedInParts rows m c)
+pub applied-by : (rows : List EventRow) (m : Meter) (c : Call) (b : Bool) → soundMeter rows m ≡ b
+    → cond b (carriedOutInParts rows m c) (record { meter = m; answer = Refused 12 }) ≡ appliedInParts rows m c
 unfolding appliedInParts
-not-sound rows m c e = rw e
-
-pub is-sound : (rows : List EventRow) (m : Meter) (c : Call) → soundMeter rows m ≡ true → carriedOutInParts rows m c ≡ appliedInParts rows m c
-unfolding appliedInParts
-is-sound rows m c e = rw e
-
--- ---- the record taken apart
-pub of-parts : (rows : List EventRow) (m : Meter) (c : Call) (s : Scalars) (o : Outcome) → s ≡ scalarsOf m
-    → o ≡ applied rows (withLogs s (m .logs .counts) (m .logs .clocks) (m .logs .codes)) c → o ≡ applied rows m c
-of-parts rows m c s o e p = rw (p, e)
+applied-by rows m c b e = rw e
 
 -- ---- the logs
 module _ (rows : List EventRow) (g : Logs) (z : Sized g) (e : soundLogs rows g ≡ true) (r : Change) where
-  -- the arrays as the code leaves them
-  abbrev left : Logs
-  left = extendedArrays (r .log) (map lineClock (r .lines)) (map lineCode (r .lines)) (zeroedArrays (r .cleared) g)
-
-  logs-after : left ≡ laid (appended (r .log) (r .lines) (emptied (r .cleared) (listsOf g)))
+  logs-after : arraysAfter g r ≡ laid (appended (r .log) (r .lines) (emptied (r .cleared) (listsOf g)))
   logs-after =
       let lists = listsOf g in
       let empty = emptied (r .cleared) lists in
@@ -116,13 +103,12 @@ module _ (rows : List EventRow) (m : Meter) where
 
   pub in-parts : (c : Call) → Sized (m .logs) → appliedInParts rows m c ≡ applied rows m c
   unfolding appliedInParts applied
-  in-parts c z = go (soundMeter rows m) refl
-    where
-      go : (b : Bool) → soundMeter rows m ≡ b
-          → cond b (carriedOutInParts rows m c) (record { meter = m; answer = Refused 12 })
-          ≡ cond b (carriedOut m (resultOf rows (scalarsOf m) c)) (record { meter = m; answer = Refused 12 })
-      go true e = laid-out z e (resultOf rows (scalarsOf m) c)
-      go false e = refl
+  in-parts c z = by-test (soundMeter rows m) (λ e. rw e (laid-out z e (resultOf rows (scalarsOf m) c))) (λ e. rw e)
+
+  -- and of the record taken apart
+  pub of-parts : (c : Call) (s : Scalars) (o : Outcome) → Sized (m .logs) → s ≡ scalarsOf m
+      → o ≡ appliedInParts rows (withLogs s (m .logs .counts) (m .logs .clocks) (m .logs .codes)) c → o ≡ applied rows m c
+  of-parts c s o z e p = rw (p, e) (in-parts c z)
 
   performed-in-parts : (p : Parsed) → Sized (m .logs) → soundMeter rows m ≡ true → performedInParts rows m p ≡ performed rows m p
   performed-in-parts (Ok c) z e = sound-in-parts c z e

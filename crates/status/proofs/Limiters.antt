@@ -1,7 +1,7 @@
 -- Calls that touch no limiter.
 use mathlib.Core.Path.{_≡_, refl}
 use mathlib.Core.Bool.{Bool, true, false, cond}
-use mathlib.Core.List.{List, [], _∷_}
+use mathlib.Core.List.{List, []}
 use mathlib.Core.Option.{Option, none, some}
 use lib.Dec.{eqb, leb}
 use Rattle.events.specs.Line.{Line, isLog}
@@ -14,7 +14,7 @@ use Rattle.control.specs.Control.{inMode, modeDecision}
 use Rattle.limiter.specs.declared.Limiter.{Limiter}
 use Rattle.history.specs.Effects.{AnyCall, alarms, errors, sample, request, setMode, setLimiter, setClock, event, setFilter, clearBits, clearLog, script}
 use Rattle.machine.specs.Values.{Values, withControl, withLimiters}
-use Rattle.machine.specs.Machine.{Result, refusing, making, moving, decided, answering, occurring, requestOf, result}
+use Rattle.machine.specs.Machine.{Result, refusing, moving, decided, answering, occurring, requestOf, result}
 use Rattle.machine.specs.Machine.{requestResult, modeResult, eventResult, clearLogResult, scriptResult}
 use Rattle.status.specs.Laws.{NoLimiter, changeWith, resultWith, Laws}
 

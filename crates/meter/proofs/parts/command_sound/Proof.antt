@@ -3,17 +3,12 @@ use Rattle.meter.specs.Parts.{commandedInParts}
 use Rattle.meter.proofs.parts.command_sound.Statement.{statement}
 use Rattle.meter.proofs.parts.command_sound.Tie as tie
 
-returns : tie.Need-returns
-unfolding commandedInParts
-returns c = rw (← c .before .before .read-kind .ensures .0, c .enum-told .given .1)
-
-returns-2 : tie.Need-returns-2
-unfolding commandedInParts
-returns-2 c =
-    let told = c .before .before .before .before .before in
-    rw (← told .before .before .read-kind .ensures .0, told .parsed .given .1) (c .apply-sound .ensures)
-
 pub command-sound-spec : {M : Type 1} → statement M
+unfolding commandedInParts
 command-sound-spec =
-    tie.close
-    (tie.spec (λ c κs. search needs) (λ c. search needs) (λ c. search needs) returns (λ c κs. search needs) returns-2)
+    tie.close (tie.spec (λ c κs. search needs) (λ c. search needs) (λ c. search needs)
+    (λ c. rw (← c .before .before .read-kind .ensures .0, c .enum-told .given .1))
+    (λ c κs. search needs)
+    (λ c.
+    let told = c .before .before .before .before .before in
+    rw (← told .before .before .read-kind .ensures .0, told .parsed .given .1) (c .apply-sound .ensures)))

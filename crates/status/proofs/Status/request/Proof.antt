@@ -24,17 +24,12 @@ listed s Stay h = refl
 listed s NotListed (inl e) = absurd (omega arith)
 listed s NotListed (inr e) = absurd (omega arith)
 
-returns : tie.Need-returns
-unfolding requestResult
-returns c = (rw (← c .before .before .before .decide .ensures, c .before .enum-told .given .1) (c .refused .ensures), laws)
-
-returns-2 : tie.Need-returns-2
-unfolding requestResult
-returns-2 c =
-    let d = c .before .before .decide in
-    (rw (← d .ensures) (c .switched .ensures ∙ listed (c .before .before .before .args .self) (d .result) (c .before .match .keys2)), laws)
-
 pub request-spec : {M : Type 1} → statement M
-request-spec =
-    tie.close
-    (tie.spec (λ c κs. search needs) (λ c. search needs) (λ c κs. search needs) (λ c κs. search needs) returns returns-2)
+unfolding requestResult
+request-spec {M} =
+    let answers = tie.spec {M = M} (λ c κs. search needs) (λ c. search needs) (λ c κs. search needs) (λ c κs. search needs)
+    (λ c. (rw (← c .before .before .before .decide .ensures, c .before .enum-told .given .1) (c .refused .ensures), laws))
+    (λ c.
+    let d = c .before .before .decide in
+    (rw (← d .ensures) (c .switched .ensures ∙ listed (c .before .before .before .args .self) (d .result) (c .before .match .keys2)), laws))
+    in tie.close answers

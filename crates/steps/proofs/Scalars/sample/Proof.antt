@@ -19,23 +19,20 @@ returns c =
     rw (← watched-is w, ← n .next-held .ensures, c .with .ensures, c .before .accepted .ensures, c .before .before .status .ensures)
     (after-none _ (w .sample .result) (not-true _ (c .before .before .before .if1 .taken)))
 
-returns-2 : tie.Need-returns-2
-unfolding sampleResult eachFrom
-returns-2 c =
-    let n = c .before .before .before .before in
-    let w = n .before .before in
-    rw (← watched-is w, ← n .next-held .ensures)
-    (c .fired .ensures ∙ after-over _ (w .sample .result) (not-false _ (c .before .before .if1 .left)) (c .before .if2 .taken))
-
-returns-3 : tie.Need-returns-3
-unfolding sampleResult eachFrom
-returns-3 c =
-    let n = c .before .before .before .before in
-    let w = n .before .before in
-    rw (← watched-is w, ← n .next-held .ensures)
-    (c .fired2 .ensures ∙ after-under _ (w .sample .result) (not-false _ (c .before .before .if1 .left)) (c .before .if2 .left))
-
 pub sample-spec : {M : Type 1} → statement M
-sample-spec =
-    tie.close (tie.spec (λ c κs. search needs) (λ c κs. search needs) (λ c κs. search needs) (λ c κs. search needs) (λ c κs. search needs) returns
-    (λ c κs. search needs) returns-2 (λ c κs. search needs) returns-3)
+unfolding sampleResult eachFrom
+sample-spec {M} =
+    let answers = tie.spec {M = M} (λ c κs. search needs) (λ c κs. search needs) (λ c κs. search needs) (λ c κs. search needs) (λ c κs. search needs)
+    returns (λ c κs. search needs)
+    (λ c.
+    let n = c .before .before .before .before in
+    let w = n .before .before in
+    rw (← watched-is w, ← n .next-held .ensures)
+    (c .fired .ensures ∙ after-over _ (w .sample .result) (not-false _ (c .before .before .if1 .left)) (c .before .if2 .taken)))
+    (λ c κs. search needs)
+    (λ c.
+    let n = c .before .before .before .before in
+    let w = n .before .before in
+    rw (← watched-is w, ← n .next-held .ensures)
+    (c .fired2 .ensures ∙ after-under _ (w .sample .result) (not-false _ (c .before .before .if1 .left)) (c .before .if2 .left)))
+    in tie.close answers
