@@ -47,7 +47,7 @@ fn run(meter: Meter, records: &[u8], by_method: u32) -> Meter
 pub extern "C" fn measure_calls(page: &mut [u8], records: &[u8], rounds: u32, by_method: u32) -> u32
     ensures { λ r. ⌜ (r ≡ callsAnswer (now (page .entry)) (now (records .entry)) rounds) × (now (page .exit) ≡ callsPage (now (page .entry)) (now (records .entry)) rounds) ⌝ }
 {
-    let read = page::read_page(page);
+    let read = reader::read_page(page);
     let answer = read.answer;
     if let Answer::Refused(number) = answer {
         return number as u32;
@@ -58,7 +58,7 @@ pub extern "C" fn measure_calls(page: &mut [u8], records: &[u8], rounds: u32, by
         meter = run(meter, records, by_method);
         left -= 1;
     }
-    page::write_page(meter, page).number() as u32
+    writer::write_page(meter, page).number() as u32
 }
 
 // Tests `rounds` times whether the record of a page is sound, and answers how often it was. The
@@ -67,7 +67,7 @@ pub extern "C" fn measure_calls(page: &mut [u8], records: &[u8], rounds: u32, by
 pub extern "C" fn measure_sound(page: &[u8], rounds: u32) -> u32
     ensures { λ r. ⌜ r ≡ soundRounds (now (page .entry)) rounds ⌝ }
 {
-    let read = page::read_page(page);
+    let read = reader::read_page(page);
     let mut meter = read.meter;
     let mut sound = 0;
     for round in 0..rounds {
@@ -83,12 +83,12 @@ pub extern "C" fn measure_sound(page: &[u8], rounds: u32) -> u32
 pub extern "C" fn measure_write(page: &mut [u8], rounds: u32) -> u32
     ensures { λ r. ⌜ (r ≡ writeRounds (now (page .entry)) rounds) × (now (page .exit) ≡ writtenRounds (readOf (now (page .entry)) .meter) (now (page .entry)) rounds) ⌝ }
 {
-    let read = page::read_page(page);
+    let read = reader::read_page(page);
     let mut meter = read.meter;
     let mut accepted = 0;
     for round in 0..rounds {
         meter.clock = round;
-        let answer = page::write_page(meter, page);
+        let answer = writer::write_page(meter, page);
         accepted += one_if(answer.number() == 0);
     }
     accepted
@@ -115,7 +115,7 @@ pub extern "C" fn measure_read(page: &mut [u8], rounds: u32) -> u32
     let mut accepted = 0;
     for round in 0..rounds {
         count_round(page, round);
-        let read = page::read_page(page);
+        let read = reader::read_page(page);
         let answer = read.answer;
         accepted += one_if(answer.number() == 0);
     }

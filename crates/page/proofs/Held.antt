@@ -4,7 +4,9 @@ use mathlib.Core.Bool.{Bool, true, false, _&&_, cond}
 use mathlib.Core.List.{List}
 use Prim.Native.Nat.{ℕ, zero, suc, _<_, _≤_, _^_}
 use native.Mathlib.Omega.{arith}
-use lib.Dec.{leb, ltb}
+use lib.Dec.{T, leb, ltb}
+use lib.IntN.{ℤ, pos, negsuc, natAbs}
+use lib.Signed.{nonNeg, leZ}
 use lib.ListN.{getD}
 use borrow.Author.Tests.{leb-true, ltb-true}
 use Rattle.base.proofs.Bools.{and-left, and-right}
@@ -24,7 +26,6 @@ use Rattle.steps.specs.Scalars.{soundScalars}
 use Rattle.page.specs.Layout.{controlArea, limiterArea, registerArea, lineFormat, logArea, logsArea, storedLines, layout}
 use Rattle.page.specs.Laws.{Typed}
 use Rattle.page.proofs.Lines.{length-lines}
-use Rattle.page.proofs.Threshold.{threshold-held}
 
 -- ---- what soundness bounds
 control-held : (c : Control) → soundControl c ≡ true → Word (c .openings) → controlArea .Holds c
@@ -34,6 +35,10 @@ control-held c e openings =
     let mode = leb-true (c .mode) 6 (and-left (leb (c .mode) 6) (leb (c .state) 2) ranges) in
     let state = leb-true (c .state) 2 (and-right (leb (c .mode) 6) (leb (c .state) 2) ranges) in
     ((omega arith, (omega arith, omega arith)), tt)
+
+threshold-held : (z : ℤ) → isThreshold z ≡ true → T (nonNeg z) × (natAbs z < 256 ^ 4)
+threshold-held (pos n) e = (tt, omega (arith, leb-true n 2147483647 (and-right (leZ (pos 0) (pos n)) _ e)))
+threshold-held (negsuc n) e = let z : _≡_ {A = ℕ} 0 1 = cc in absurd (omega arith)
 
 duration : (n : ℕ) → isDuration n ≡ true → n ≤ 86400
 duration n e = leb-true n 86400 (and-right (leb 1 n) (leb n 86400) e)

@@ -4,10 +4,9 @@ use mathlib.Core.Bool.{true}
 use mathlib.Core.List.{List}
 use Prim.Native.Nat.{ℕ, _≤_}
 use native.Mathlib.Omega.{arith}
-use lib.ListN.{length, take, replicate}
+use lib.ListN.{length, replicate}
 use borrow.Author.Tests.{le-leb}
 use Rattle.events.specs.Table.{builtIn}
-use Rattle.calls.specs.declared.Answer.{Answer}
 use Rattle.calls.specs.declared.Answer.the-variants.{Accepted}
 use Rattle.history.specs.OnePhase.{Account}
 use Rattle.meter.specs.declared.Meter.{Meter}
@@ -24,7 +23,7 @@ use Rattle.meter.proofs.Laws.{built-in}
 use Rattle.meter.proofs.Values.{record-sound}
 use Rattle.meter.proofs.Simulates.{account-sound}
 use Rattle.events.proofs.Rule.{built-in-lawful}
-use Rattle.page.specs.Layout.{size, pageOf, writeAnswer, written, acceptedOutcome, readOf}
+use Rattle.page.specs.Layout.{size, pageOf, writeAnswer}
 use Rattle.page.specs.Laws.{Typed}
 use Rattle.page.specs.Examples.{worked, unused, Examples}
 use Rattle.page.proofs.Example.{worked-page, distinct-page}
@@ -120,8 +119,3 @@ examples =
       distinct-page = distinct-page;
       compared = demand-3 worked unused (replicate size 255) (replicate 600 0) (omega arith) (omega arith);
     }
-
--- what the writer promises, by what it answers and leaves
-pub writer-promises : (m : Meter) (out : List ℕ) (a : Answer) (left : List ℕ) → Typed m → (a ≡ writeAnswer m out) × (left ≡ written m out)
-    → ((a ≡ writeAnswer m out) × (left ≡ written m out)) × ((a ≡ Accepted → readOf (take size left) ≡ acceptedOutcome m) × (Demand3 × Examples))
-writer-promises m out a left t e = (e, (λ h. rw (e .1) (laws .read-written m out t (sym (e .0) ∙ h)), (demand-3, examples)))

@@ -36,7 +36,7 @@ fn keep(outcome: Outcome, page: &mut [u8]) -> u32
     if let Answer::Refused(number) = answer {
         return number as u32;
     }
-    page::write_page(outcome.meter, page).number() as u32
+    writer::write_page(outcome.meter, page).number() as u32
 }
 
 // Writes the page of a fresh meter into the first 558 bytes: 1 for a mode above 6, 4 if the threshold
@@ -82,7 +82,7 @@ pub extern "C" fn pillar_call(
     let Parsed::Ok(call) = parsed else {
         return 13;
     };
-    let read = page::read_page(page);
+    let read = reader::read_page(page);
     let answer = read.answer;
     if let Answer::Refused(number) = answer {
         return number as u32;
@@ -100,7 +100,7 @@ pub extern "C" fn pillar_call(
         return number as u32;
     }
     let after = called.scalars;
-    page::write_sound(after, &counts, &clocks, &codes, page).number() as u32
+    writer::write_sound(after, &counts, &clocks, &codes, page).number() as u32
 }
 
 // Runs a whole list of 21-byte records, the first of which is fresh, and writes the page of its
@@ -119,7 +119,7 @@ pub extern "C" fn pillar_replay(records: &[u8], page: &mut [u8]) -> u32
 pub extern "C" fn pillar_check(page: &[u8]) -> u32
     ensures { λ r. ⌜ r ≡ checkNumber (now (page .entry)) ⌝ }
 {
-    let read = page::read_page(page);
+    let read = reader::read_page(page);
     let answer = read.answer;
     answer.number() as u32
 }

@@ -72,7 +72,7 @@ pub fn replay(records: &[u8], page: &mut [u8]) -> Replayed
         return Replayed::Short;
     }
     let last = run::run_from(fresh.meter, records, 1);
-    let written = page::write_page(last, page);
+    let written = writer::write_page(last, page);
     match written {
         Answer::Accepted => Replayed::Written,
         // Only a short buffer: whatever the calls were, they leave the meter sound.

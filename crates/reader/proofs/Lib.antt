@@ -1,0 +1,3 @@
+pub mod Lines
+pub mod Threshold
+pub mod Parts

@@ -1,0 +1,22 @@
+-- The record in its parts: the scalars and the arrays of the logs, read apart, make the record, and their tests are its test.
+use mathlib.Core.Path.{_≡_, ap, _∙_}
+use mathlib.Core.Bool.{Bool, _&&_}
+use mathlib.Core.List.{List}
+use Prim.Native.Nat.{ℕ}
+use Rattle.events.specs.Table.{builtIn}
+use Rattle.logs.specs.Arrays.{soundArrays}
+use Rattle.steps.specs.declared.Scalars.{Scalars}
+use Rattle.meter.specs.State.{scalarsOf, withLogs}
+use Rattle.meter.specs.Sound.{soundMeter}
+use Rattle.steps.specs.Scalars.{soundScalars}
+use Rattle.meter.proofs.Tail.{sound-is}
+use Rattle.page.specs.Layout.{logsArea, layout, meterIn}
+
+module _ (s : List ℕ) {x : Scalars} {counts clocks codes : List ℕ} (scalars : x ≡ scalarsOf (meterIn s))
+    (ks : counts ≡ logsArea .dec s 75 .counts) (ts : clocks ≡ logsArea .dec s 75 .clocks) (cs : codes ≡ logsArea .dec s 75 .codes) where
+  pub parts-make : withLogs x counts clocks codes ≡ meterIn s
+  unfolding layout
+  parts-make = λ i. withLogs (scalars i) (ks i) (ts i) (cs i)
+
+  pub parts-sound : (a b : Bool) → a ≡ soundScalars x → b ≡ soundArrays builtIn counts clocks codes → a && b ≡ soundMeter builtIn (meterIn s)
+  parts-sound a b p q = sound-is builtIn (withLogs x counts clocks codes) a b p q ∙ ap (soundMeter builtIn) parts-make

@@ -1,0 +1,107 @@
+use mathlib.Core.Path.{_≡_, _∙_, sym}
+use mathlib.Core.Bool.{true, _&&_}
+use mathlib.Core.List.{List}
+use Prim.Native.Nat.{ℕ}
+use native.Mathlib.Omega.{arith}
+use borrow.Author.Tests.{not-true, not-false, ne-eqb, eq-eqb}
+use Rattle.codec.specs.Lawful.{Bytes}
+use Rattle.events.specs.Table.{builtIn}
+use Rattle.meter.specs.declared.Outcome.{Outcome}
+use Rattle.meter.specs.Sound.{soundMeter}
+use Rattle.page.specs.Layout.{meterIn, isRecord, readOf}
+use Rattle.page.specs.Laws.{Laws, WrittenBack}
+use Rattle.page.specs.NearMisses.{NearMisses}
+use Rattle.reader.proofs.Threshold.{failed, passed-sound}
+use Rattle.reader.proofs.Parts.{parts-make, parts-sound}
+use Rattle.page.proofs.RoundTrip.{laws, written-back}
+use Rattle.page.proofs.NearMisses.{near-misses}
+use borrow.Author.Needs.{needs}
+use Rattle.reader.proofs.read_page.Statement.{statement}
+use Rattle.reader.proofs.read_page.Tie as tie
+
+-- the elements of the slice are bytes
+all-bytes : (c : tie.After-shared-slice-known) → Bytes (c .before .args .bytes .now)
+all-bytes c i = omega (arith, c .shared-slice-known .given i)
+
+-- what the reader promises, by what it hands back
+promises : (s : List ℕ) (o : Outcome) → Bytes s → o ≡ readOf s → (o ≡ readOf s) × (WrittenBack o s × (Laws × NearMisses))
+promises s o b e = (e, (written-back s o b e, (laws, near-misses)))
+
+returns : tie.Need-returns
+unfolding readOf
+returns c = promises _ _ (all-bytes (c .before .before)) (rw (c .refused .ensures, ne-eqb _ _ (c .before .if1 .taken)))
+
+returns-2 : tie.Need-returns-2
+unfolding readOf
+returns-2 c =
+    let d = c .before .before in
+    promises _ _ (all-bytes (d .before .before))
+    (rw (c .refused2 .ensures, eq-eqb _ _ (d .before .if1 .left), sym (d .has-pairs .ensures) ∙ not-true _ (c .before .if2 .taken)))
+
+returns-3 : tie.Need-returns-3
+unfolding readOf
+returns-3 c =
+    let v = c .before .before in
+    let d = v .before .before in
+    let s = d .before .before .before .args .bytes .now in
+    let unsound = failed s (sym (v .is-record .ensures) ∙ not-true _ (c .before .if3 .taken)) in
+    promises _ _ (all-bytes (d .before .before))
+    (rw (c .refused3 .ensures, eq-eqb _ _ (d .before .if1 .left), sym (d .has-pairs .ensures) ∙ not-false _ (v .before .if2 .left), unsound))
+
+-- the scalars, which are read last
+abbrev scalars : tie.After-sound2 → tie.After-scalars-at
+scalars c = c .before .before .before .before .before
+
+-- the bytes, once they have passed the reader's tests
+abbrev passed : tie.After-sound2 → tie.Else3
+passed c = scalars c .before .before .before .before .before .before
+
+abbrev bytes : tie.After-sound2 → List ℕ
+bytes c = passed c .before .before .before .before .before .before .args .bytes .now
+
+tested : (c : tie.After-sound2) → c .before .before .before .before .sound .result && c .sound2 .result ≡ soundMeter builtIn (meterIn (bytes c))
+tested c =
+    let lines = scalars c .before in
+    let counts = lines .before .before .before .before in
+    parts-sound (bytes c) (scalars c .scalars-at .ensures) (counts .counts-at .ensures) (lines .lines-at .ensures .0) (lines .lines-at .ensures .1)
+    _ _
+    (c .before .before .before .before .sound .ensures)
+    (c .sound2 .ensures)
+
+valid : (c : tie.After-sound2) → isRecord (bytes c) ≡ true
+valid c = sym (passed c .before .is-record .ensures) ∙ not-false _ (passed c .if3 .left)
+
+scalars-at-requires : tie.Need-scalars-at-requires
+scalars-at-requires c κs =
+    let p = c .before .before .before .before .before in
+    sym (p .before .is-record .ensures) ∙ not-false _ (p .if3 .left)
+
+returns-4 : tie.Need-returns-4
+unfolding readOf
+returns-4 c =
+    let t = c .before .before in
+    let v = passed t .before in
+    let d = v .before .before in
+    let test = sym (tested t) ∙ not-true _ (c .before .if4 .taken) in
+    promises _ _ (all-bytes (d .before .before))
+    (rw (c .refused4 .ensures, eq-eqb _ _ (d .before .if1 .left), sym (d .has-pairs .ensures) ∙ not-false _ (v .before .if2 .left), passed-sound (bytes t) (valid t) ∙ test))
+
+returns-5 : tie.Need-returns-5
+unfolding readOf
+returns-5 c =
+    let t = c .before .before in
+    let v = passed t .before in
+    let d = v .before .before in
+    let lines = scalars t .before in
+    let counts = lines .before .before .before .before in
+    let meter = c .of-parts .ensures ∙ parts-make (bytes t) (scalars t .scalars-at .ensures) (counts .counts-at .ensures)
+    (lines .lines-at .ensures .0) (lines .lines-at .ensures .1) in
+    let test = sym (tested t) ∙ not-false _ (c .before .if4 .left) in
+    promises _ _ (all-bytes (d .before .before))
+    (rw (meter, eq-eqb _ _ (d .before .if1 .left), sym (d .has-pairs .ensures) ∙ not-false _ (v .before .if2 .left), passed-sound (bytes t) (valid t) ∙ test))
+
+pub read-page-spec : {M : Type 1} → statement M
+read-page-spec =
+    tie.close (tie.spec (λ c κs. search needs) returns (λ c κs. search needs) (λ c κs. search needs) returns-2 (λ c κs. search needs)
+    (λ c κs. search needs) returns-3 (λ c κs. search needs) (λ c κs. search needs) scalars-at-requires (λ c κs. search needs)
+    (λ c κs. search needs) (λ c κs. search needs) returns-4 (λ c κs. search needs) returns-5)

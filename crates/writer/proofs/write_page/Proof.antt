@@ -1,0 +1,82 @@
+use mathlib.Core.Path.{_≡_, _∙_, sym, ap}
+use mathlib.Core.Bool.{_&&_}
+use mathlib.Core.List.{List}
+use Prim.Native.Nat.{ℕ, _<_, _^_}
+use native.Mathlib.Omega.{arith}
+use lib.ListN.{getD, take}
+use mir.Syntax.{Width, w8, w32}
+use mir.Val.{Fits, bits}
+use borrow.Author.Needs.{needs}
+use borrow.Author.Tests.{not-true, not-false}
+use Rattle.events.specs.Table.{builtIn}
+use Rattle.calls.specs.declared.Answer.{Answer}
+use Rattle.calls.specs.declared.Answer.the-variants.{Accepted, Refused}
+use Rattle.steps.specs.Scalars.{soundScalars}
+use Rattle.meter.specs.declared.Meter.{Meter}
+use Rattle.meter.specs.Sound.{soundMeter}
+use Rattle.meter.proofs.Tail.{sound-is}
+use Rattle.page.specs.Layout.{size, writeAnswer, written, acceptedOutcome, readOf}
+use Rattle.page.specs.Demand3.{Demand3}
+use Rattle.page.specs.Examples.{Examples}
+use Rattle.page.specs.Laws.{Typed}
+use Rattle.page.proofs.RoundTrip.{laws}
+use Rattle.page.proofs.Traces.{demand-3, examples}
+use Rattle.writer.proofs.write_page.Statement.{statement}
+use Rattle.writer.proofs.write_page.Tie as tie
+
+-- the test of the scalars, before that of the logs
+abbrev scalars-tested : tie.After-sound2 → tie.After-sound
+scalars-tested c = c .before .before .before .before .before
+
+-- the function's entry, before the record has been tested
+abbrev start : tie.After-sound2 → tie.Start
+start c = scalars-tested c .before .before .before
+
+tested : (c : tie.After-sound2) → scalars-tested c .sound .result && c .sound2 .result ≡ soundMeter builtIn (start c .args .t1)
+tested c =
+    let s = scalars-tested c in
+    sound-is builtIn (start c .args .t1) _ _ (s .sound .ensures ∙ ap soundScalars (s .before .scalars .ensures)) (c .sound2 .ensures)
+
+fits : (w : Width) (n : ℕ) → Fits w n → n < 2 ^ bits w
+fits w n f = f .fits
+
+-- the record's numbers are values of their types
+typed : (c : tie.Start) → Typed (c .args .t1)
+typed c =
+    record {
+      openings = search needs;
+      clock = search needs;
+      alarms = search needs;
+      alarmFilter = search needs;
+      errors = search needs;
+      errorFilter = search needs;
+      logs = record { counts = search needs; clocks = search needs; codes = search needs };
+      counts = λ i. fits w8 (getD (c .args .t1 .logs .counts) i 0) (search needs);
+      clocks = λ i. omega (arith, fits w32 (getD (c .args .t1 .logs .clocks) i 0) (search needs));
+      codes = λ i. fits w8 (getD (c .args .t1 .logs .codes) i 0) (search needs);
+    }
+
+-- what the writer promises, by what it answers and leaves
+writer-promises : (m : Meter) (out : List ℕ) (a : Answer) (left : List ℕ) → Typed m → (a ≡ writeAnswer m out) × (left ≡ written m out)
+    → ((a ≡ writeAnswer m out) × (left ≡ written m out)) × ((a ≡ Accepted → readOf (take size left) ≡ acceptedOutcome m) × (Demand3 × Examples))
+writer-promises m out a left t e = (e, (λ h. rw (e .1) (laws .read-written m out t (sym (e .0) ∙ h)), (demand-3, examples)))
+
+returns : tie.Need-returns
+unfolding writeAnswer written
+returns c =
+    let e = sym (tested (c .before)) ∙ not-true _ (c .if1 .taken) in
+    let a = start (c .before) .args in
+    writer-promises (a .t1) (a .out .now) (Refused 12) (a .out .now) (typed (start (c .before))) (rw e, rw e)
+
+returns-2 : tie.Need-returns-2
+returns-2 c =
+    let wrote = c .before .before in
+    let if1 = wrote .before .before .before .before .before .before in
+    let t = if1 .before in
+    let same = scalars-tested t .before .scalars .ensures in
+    writer-promises _ _ _ _ (typed (start t)) (rw same at (wrote .write-sound .ensures) (sym (tested t) ∙ not-false _ (if1 .if1 .left)))
+
+pub write-page-spec : {M : Type 1} → statement M
+write-page-spec =
+    tie.close (tie.spec (λ c κs. search needs) (λ c κs. search needs) (λ c κs. search needs) returns (λ c κs. search needs)
+    (λ c. search needs) returns-2)

@@ -1,0 +1,47 @@
+use mathlib.Core.Path.{_≡_, refl}
+use mathlib.Core.Bool.{true}
+use borrow.Author.Needs.{needs}
+use borrow.Author.Tests.{lt-leb, le-leb}
+use Rattle.base.proofs.Bools.{and-right}
+use Rattle.events.specs.Table.{builtIn}
+use Rattle.logs.specs.Arrays.{soundArrays}
+use Rattle.logs.specs.Layout.{soundLogs}
+use Rattle.meter.specs.declared.Meter.{Meter}
+use Rattle.meter.specs.State.{scalarsOf, withLogs}
+use Rattle.steps.specs.Scalars.{soundScalars}
+use Rattle.meter.specs.Sound.{soundMeter}
+use Rattle.page.specs.Layout.{writeAnswer, written}
+use Rattle.writer.proofs.Stored.{page-left}
+use Rattle.writer.proofs.write_sound.Statement.{statement}
+use Rattle.writer.proofs.write_sound.Tie as tie
+
+-- the record of the parts
+abbrev given : tie.Start → Meter
+given c = withLogs (c .args .scalars) (c .args .counts .now) (c .args .clocks .now) (c .args .codes .now)
+
+logs-sound : (m : Meter) → soundMeter builtIn m ≡ true → soundArrays builtIn (m .logs .counts) (m .logs .clocks) (m .logs .codes) ≡ true
+unfolding soundMeter soundLogs
+logs-sound m e = and-right (soundScalars (scalarsOf m)) _ e
+
+returns : tie.Need-returns
+unfolding writeAnswer written
+returns c e = let l = lt-leb _ _ (c .if1 .taken) in (rw (e, l), rw (e, l))
+
+returns-2 : tie.Need-returns-2
+unfolding writeAnswer written
+returns-2 c e =
+    let g = c .before .before in
+    let p = g .before .before .before .before in
+    let s = p .before .before .before .before in
+    let room = p .before .before .if1 .left in
+    let l = le-leb _ _ room in (
+      rw (e, l),
+      rw (e, l)
+          (page-left (s .args .out .now) (p .put-scalars .last .0) (g .put-logs .last .0) (given s) _ room refl
+          (p .put-scalars .ensures) (g .put-logs .ensures (logs-sound (given s) e))),
+    )
+
+pub write-sound-spec : {M : Type 1} → statement M
+write-sound-spec =
+    tie.close
+    (tie.spec returns (λ c κs. search needs) (λ c κs. search needs) (λ c. search needs) returns-2)

@@ -1,0 +1,53 @@
+// The page's writer.
+ghost use mathlib.Core.Path.{_≡_};
+ghost use mathlib.Core.Bool.{true};
+ghost use lib.ListN.{take};
+ghost use Rattle.events.specs.Table.{builtIn};
+ghost use Rattle.meter.specs.State.{withLogs};
+ghost use Rattle.meter.specs.Sound.{soundMeter};
+ghost use Rattle.page.specs.Layout.{size, writeAnswer, written, acceptedOutcome, readOf};
+ghost use Rattle.page.specs.Demand3.{Demand3};
+ghost use Rattle.page.specs.Examples.{Examples};
+
+mod areas;
+
+use calls::Answer;
+use meter::Meter;
+use page::FIRST_LOG;
+use page::PAGE_LEN;
+use steps::Scalars;
+
+// Writes the record's page into the first 558 bytes of the buffer. Refuses a record that is not
+// sound with 12, then a buffer that is too short with 8, and then writes nothing.
+pub fn write_page(m: Meter, out: &mut [u8]) -> Answer
+    ensures { λ r. ⌜ (r ≡ writeAnswer m (now (out .entry))) × (now (out .exit) ≡ written m (now (out .entry))) ⌝ }
+    ensures restored { λ r. ⌜ (r ≡ Answer.Accepted → readOf (take size (now (out .exit))) ≡ acceptedOutcome m) ⌝ }
+    ensures demand3 { λ _. ⌜ Demand3 ⌝ }
+    ensures examples { λ _. ⌜ Examples ⌝ }
+{
+    // In parts, the arrays lent: each call that takes the whole record copies it.
+    let scalars = m.scalars();
+    if !(scalars.sound() & logs::sound(&m.logs.counts, &m.logs.clocks, &m.logs.codes)) {
+        return Answer::Refused(12);
+    }
+    write_sound(scalars, &m.logs.counts, &m.logs.clocks, &m.logs.codes, out)
+}
+
+// The same with no test of the record, which is lent in parts: for one that is known to be sound, since
+// the reader has taken it, or a call on a sound record has handed it back.
+pub fn write_sound<'a>(
+    scalars: Scalars,
+    counts: &'a [u8; 3],
+    clocks: &'a [u32; 96],
+    codes: &'a [u8; 96],
+    out: &mut [u8],
+) -> Answer
+    ensures { λ r. ⌜ (let m = withLogs scalars (now (counts .entry)) (now (clocks .entry)) (now (codes .entry)) in soundMeter builtIn m ≡ true → (r ≡ writeAnswer m (now (out .entry))) × (now (out .exit) ≡ written m (now (out .entry)))) ⌝ }
+{
+    if out.len() < PAGE_LEN {
+        return Answer::Refused(8);
+    }
+    areas::put_scalars(out, scalars);
+    areas::put_logs(out, FIRST_LOG, counts, clocks, codes);
+    Answer::Accepted
+}
