@@ -1,109 +1,524 @@
 /*
- * The switching core of the pillar meter, as C sees it: the archive is
+ * The switching core of the pillar meter, as C and C++ see it: the archive is
  * target/staticlib/libpillar.a, for x86-64, made by `rt staticlib pillar`. It
- * needs memcpy and memset, and nothing else.
+ * needs memcpy and memset, and nothing else. This header is C99 and C++11.
  *
- * A meter's state is its page of PILLAR_PAGE bytes, which the caller keeps.
- * The core does no input or output. It keeps nothing between calls, allocates
- * nothing, and uses under 4 KiB of stack (measured on x86-64 in a static
- * program; no proof covers it). Two threads may call it at once on pages of
- * their own.
+ * A meter's state is its page of PILLAR_PAGE_SIZE bytes, which the caller
+ * keeps. The core does no input or output. It keeps nothing between calls,
+ * allocates nothing, and uses under 4 KiB of stack (measured on x86-64 in a
+ * static program; no proof covers it). Two threads may call it at once on
+ * pages of their own.
  *
- * Every function answers 0, or the number of a refusal. On a refusal every
- * byte of the page is as it was. Each function is proved to answer and to
- * write what crates/pillar/specs/Interface.antt says (of pillar_replay,
- * crates/replay/specs/Replay.antt), for every length and every number.
+ * The archive has four functions: pillar_fresh, pillar_call, pillar_replay and
+ * pillar_check. Each answers 0, or the number of a refusal. On a refusal every
+ * byte of the page is as it was. Each is proved to answer and to write what
+ * crates/pillar/specs/Interface.antt says (of pillar_replay,
+ * crates/replay/specs/Replay.antt), for every length and every number. The
+ * rest of this header, names, offsets and inline functions, is not proved: the
+ * gate compares it with what the archive writes and answers (tests/header).
  *
  * The caller gives, for each pointer, `length` bytes that may be read and, but
  * for a const pointer, written. The pointer is not null, even if the length
  * is 0, and the length is below 2^63.
+ *
+ * Names are those of DLMS and of 003, the Mx381 manual.
  */
 #ifndef PILLAR_H
 #define PILLAR_H
 
 #include <stddef.h>
 #include <stdint.h>
+#ifndef __cplusplus
+#include <stdbool.h>
+#endif
 
 #ifdef __cplusplus
 extern "C" {
 #endif
 
+/*
+ * The version of this interface: major, if a program that uses it has to
+ * change; minor, if something is added; else patch. A page bears no version:
+ * one that is laid out otherwise is refused by its length or its pairs.
+ */
+#define PILLAR_VERSION_MAJOR 1
+#define PILLAR_VERSION_MINOR 0
+#define PILLAR_VERSION_PATCH 0
+#define PILLAR_VERSION \
+    (PILLAR_VERSION_MAJOR * 10000 + PILLAR_VERSION_MINOR * 100 + PILLAR_VERSION_PATCH)
+
+/* ---- The page ------------------------------------------------------------
+ *
+ * A directory, one pair of offset and length for each area, then the areas;
+ * all numbers are big-endian. Only the numbers down to PILLAR_LENGTH_LINE_CODE
+ * are given: every area's length, every offset and the page's size follow.
+ */
+#define PILLAR_AREAS 8
+#define PILLAR_PAIR_SIZE 4 /* offset 2, length 2 */
+#define PILLAR_LOGS 3
+#define PILLAR_LINES_PER_LOG 32
+
+/* Control: how the switch stands. */
+#define PILLAR_LENGTH_CONTROL_MODE 1
+#define PILLAR_LENGTH_CONTROL_STATE 1
+#define PILLAR_LENGTH_OPENINGS 4
+
+/* Limiter. */
+#define PILLAR_LENGTH_THRESHOLD 4
+#define PILLAR_LENGTH_OVER_DURATION 4
+#define PILLAR_LENGTH_UNDER_DURATION 4
+#define PILLAR_LENGTH_EXCEEDED 1
+#define PILLAR_LENGTH_RUN 4
+
+/* Clock: an area of one field. */
+#define PILLAR_LENGTH_CLOCK 4
+
+/* Alarms, errors: a register and its filter each. */
+#define PILLAR_LENGTH_ALARM_REGISTER 4
+#define PILLAR_LENGTH_ALARM_FILTER 4
+#define PILLAR_LENGTH_ERROR_REGISTER 4
+#define PILLAR_LENGTH_ERROR_FILTER 4
+
+/* A log: the count, then its lines, oldest first; lines past the count are zero. */
+#define PILLAR_LENGTH_LOG_COUNT 1
+#define PILLAR_LENGTH_LINE_CLOCK 4
+#define PILLAR_LENGTH_LINE_CODE 1
+
+#define PILLAR_DIRECTORY_SIZE (PILLAR_AREAS * PILLAR_PAIR_SIZE)
+#define PILLAR_LINE_SIZE (PILLAR_LENGTH_LINE_CLOCK + PILLAR_LENGTH_LINE_CODE)
+
+#define PILLAR_LENGTH_CONTROL \
+    (PILLAR_LENGTH_CONTROL_MODE + PILLAR_LENGTH_CONTROL_STATE + PILLAR_LENGTH_OPENINGS)
+#define PILLAR_LENGTH_LIMITER \
+    (PILLAR_LENGTH_THRESHOLD + PILLAR_LENGTH_OVER_DURATION + PILLAR_LENGTH_UNDER_DURATION \
+     + PILLAR_LENGTH_EXCEEDED + PILLAR_LENGTH_RUN)
+#define PILLAR_LENGTH_ALARMS (PILLAR_LENGTH_ALARM_REGISTER + PILLAR_LENGTH_ALARM_FILTER)
+#define PILLAR_LENGTH_ERRORS (PILLAR_LENGTH_ERROR_REGISTER + PILLAR_LENGTH_ERROR_FILTER)
+#define PILLAR_LENGTH_LOG (PILLAR_LENGTH_LOG_COUNT + PILLAR_LINES_PER_LOG * PILLAR_LINE_SIZE)
+
+#define PILLAR_OFFSET_CONTROL PILLAR_DIRECTORY_SIZE
+#define PILLAR_OFFSET_CONTROL_MODE PILLAR_OFFSET_CONTROL
+#define PILLAR_OFFSET_CONTROL_STATE (PILLAR_OFFSET_CONTROL_MODE + PILLAR_LENGTH_CONTROL_MODE)
+#define PILLAR_OFFSET_OPENINGS (PILLAR_OFFSET_CONTROL_STATE + PILLAR_LENGTH_CONTROL_STATE)
+
+#define PILLAR_OFFSET_LIMITER (PILLAR_OFFSET_CONTROL + PILLAR_LENGTH_CONTROL)
+#define PILLAR_OFFSET_THRESHOLD PILLAR_OFFSET_LIMITER
+#define PILLAR_OFFSET_OVER_DURATION (PILLAR_OFFSET_THRESHOLD + PILLAR_LENGTH_THRESHOLD)
+#define PILLAR_OFFSET_UNDER_DURATION (PILLAR_OFFSET_OVER_DURATION + PILLAR_LENGTH_OVER_DURATION)
+#define PILLAR_OFFSET_EXCEEDED (PILLAR_OFFSET_UNDER_DURATION + PILLAR_LENGTH_UNDER_DURATION)
+#define PILLAR_OFFSET_RUN (PILLAR_OFFSET_EXCEEDED + PILLAR_LENGTH_EXCEEDED)
+
+#define PILLAR_OFFSET_CLOCK (PILLAR_OFFSET_LIMITER + PILLAR_LENGTH_LIMITER)
+
+#define PILLAR_OFFSET_ALARMS (PILLAR_OFFSET_CLOCK + PILLAR_LENGTH_CLOCK)
+#define PILLAR_OFFSET_ALARM_REGISTER PILLAR_OFFSET_ALARMS
+#define PILLAR_OFFSET_ALARM_FILTER (PILLAR_OFFSET_ALARM_REGISTER + PILLAR_LENGTH_ALARM_REGISTER)
+
+#define PILLAR_OFFSET_ERRORS (PILLAR_OFFSET_ALARMS + PILLAR_LENGTH_ALARMS)
+#define PILLAR_OFFSET_ERROR_REGISTER PILLAR_OFFSET_ERRORS
+#define PILLAR_OFFSET_ERROR_FILTER (PILLAR_OFFSET_ERROR_REGISTER + PILLAR_LENGTH_ERROR_REGISTER)
+
+/* The logs, each an area: `log` is one of enum pillar_log, `line` counts from 0. */
+#define PILLAR_OFFSET_LOGS (PILLAR_OFFSET_ERRORS + PILLAR_LENGTH_ERRORS)
+#define PILLAR_OFFSET_LOG(log) (PILLAR_OFFSET_LOGS + ((log) - 1) * PILLAR_LENGTH_LOG)
+#define PILLAR_OFFSET_LOG_COUNT(log) PILLAR_OFFSET_LOG(log)
+#define PILLAR_OFFSET_LINE_CLOCK(log, line) \
+    (PILLAR_OFFSET_LOG_COUNT(log) + PILLAR_LENGTH_LOG_COUNT + (line) * PILLAR_LINE_SIZE)
+#define PILLAR_OFFSET_LINE_CODE(log, line) \
+    (PILLAR_OFFSET_LINE_CLOCK(log, line) + PILLAR_LENGTH_LINE_CLOCK)
+
 /* Bytes of a page, and of a record in the list that pillar_replay takes. */
-#define PILLAR_PAGE 558
-#define PILLAR_RECORD 21
+#define PILLAR_PAGE_SIZE (PILLAR_OFFSET_LOGS + PILLAR_LOGS * PILLAR_LENGTH_LOG)
+#define PILLAR_RECORD_SIZE 21
+
+/* ---- Numbers by name ----------------------------------------------------- */
 
 /* The answers. Where several hold, a function stops at the first in its own order. */
 enum pillar_answer {
     PILLAR_ACCEPTED = 0,
-    PILLAR_MODE = 1,            /* fresh, call 6: the mode is above 6 */
-    PILLAR_MODE_RULE = 2,       /* calls 2 to 5, also by script: not in this mode */
-    PILLAR_SCRIPT = 3,          /* call 15: the script is not 1 or 2 */
-    PILLAR_THRESHOLD = 4,       /* fresh, call 7: the threshold is negative */
-    PILLAR_DURATION = 5,        /* fresh, call 7: a duration is not 1 to 86400 */
-    PILLAR_CODE = 6,            /* call 9: the event's code is not listed */
-    PILLAR_LOG = 7,             /* call 14: the log is not 1 to 3 */
-    PILLAR_BUFFER = 8,          /* writer: under PILLAR_PAGE bytes */
-    PILLAR_LENGTH = 9,          /* reader: not PILLAR_PAGE bytes */
-    PILLAR_PAIRS = 10,          /* reader: a pair of the directory differs */
-    PILLAR_UNSOUND = 11,        /* reader: the record would not be sound */
-    PILLAR_RECORD_UNSOUND = 12, /* a record that is not sound: the reader stops it with 11 */
-    PILLAR_KIND = 13,           /* the kind is not 1 to 15 */
-    PILLAR_EMPTY = 100,         /* replay: no byte */
-    PILLAR_BAD = 101,           /* replay: the first record is not of kind 0 */
-    PILLAR_SHORT = 102          /* replay: a record is cut short */
+    PILLAR_REFUSED_CONTROL_MODE = 1,   /* fresh, set control mode: above 6 */
+    PILLAR_REFUSED_MODE_RULE = 2,      /* a request, also by script: not in this control mode */
+    PILLAR_REFUSED_SCRIPT = 3,         /* execute script: not 1 or 2 */
+    PILLAR_REFUSED_THRESHOLD = 4,      /* fresh, set limiter: negative */
+    PILLAR_REFUSED_DURATION = 5,       /* fresh, set limiter: not 1 to 86400 */
+    PILLAR_REFUSED_EVENT_CODE = 6,     /* report event: not of enum pillar_event */
+    PILLAR_REFUSED_LOG = 7,            /* clear log: not 1 to 3 */
+    PILLAR_REFUSED_BUFFER = 8,         /* writer: under PILLAR_PAGE_SIZE bytes */
+    PILLAR_REFUSED_PAGE_LENGTH = 9,    /* reader: not PILLAR_PAGE_SIZE bytes */
+    PILLAR_REFUSED_PAGE_PAIRS = 10,    /* reader: a pair of the directory differs */
+    PILLAR_REFUSED_PAGE_UNSOUND = 11,  /* reader: what the page holds would not be sound */
+    PILLAR_REFUSED_METER_UNSOUND = 12, /* never from C: the reader stops it with 11 */
+    PILLAR_REFUSED_KIND = 13,          /* call: not 1 to 15 */
+    PILLAR_REFUSED_LIST_EMPTY = 100,   /* replay: no byte */
+    PILLAR_REFUSED_LIST_BAD = 101,     /* replay: the first record is not of kind 0 */
+    PILLAR_REFUSED_LIST_SHORT = 102    /* replay: a record is cut short */
 };
 
 /* The kinds of calls, with the numbers that each takes; the others are ignored. */
 enum pillar_kind {
-    PILLAR_SAMPLE = 1,              /* power in watts, two's complement */
-    PILLAR_REMOTE_DISCONNECT = 2,
-    PILLAR_REMOTE_RECONNECT = 3,
-    PILLAR_MANUAL_DISCONNECT = 4,
-    PILLAR_MANUAL_RECONNECT = 5,
-    PILLAR_SET_MODE = 6,            /* mode */
-    PILLAR_SET_LIMITER = 7,         /* threshold in watts, two's complement; over; under */
-    PILLAR_SET_CLOCK = 8,           /* seconds */
-    PILLAR_EVENT = 9,               /* code */
-    PILLAR_SET_ALARM_FILTER = 10,   /* filter */
-    PILLAR_SET_ERROR_FILTER = 11,   /* filter */
-    PILLAR_CLEAR_ALARMS = 12,       /* mask */
-    PILLAR_CLEAR_ERRORS = 13,       /* mask */
-    PILLAR_CLEAR_LOG = 14,          /* log, 1 to 3 */
-    PILLAR_RUN_SCRIPT = 15          /* 1 disconnects, 2 reconnects */
+    PILLAR_KIND_FRESH = 0,             /* only the first record of a list: see pillar_replay */
+    PILLAR_KIND_SAMPLE = 1,            /* power in watts, two's complement */
+    PILLAR_KIND_REMOTE_DISCONNECT = 2,
+    PILLAR_KIND_REMOTE_RECONNECT = 3,
+    PILLAR_KIND_MANUAL_DISCONNECT = 4,
+    PILLAR_KIND_MANUAL_RECONNECT = 5,
+    PILLAR_KIND_SET_CONTROL_MODE = 6,  /* control mode */
+    PILLAR_KIND_SET_LIMITER = 7,       /* threshold in watts (as power), over and under duration */
+    PILLAR_KIND_SET_CLOCK = 8,         /* seconds */
+    PILLAR_KIND_REPORT_EVENT = 9,      /* code */
+    PILLAR_KIND_SET_ALARM_FILTER = 10, /* filter */
+    PILLAR_KIND_SET_ERROR_FILTER = 11, /* filter */
+    PILLAR_KIND_CLEAR_ALARMS = 12,     /* mask */
+    PILLAR_KIND_CLEAR_ERRORS = 13,     /* mask */
+    PILLAR_KIND_CLEAR_LOG = 14,        /* log */
+    PILLAR_KIND_EXECUTE_SCRIPT = 15    /* script */
+};
+
+/* Control state (003, 6.9.2). Supply flows only in PILLAR_CONTROL_STATE_CONNECTED. */
+enum pillar_control_state {
+    PILLAR_CONTROL_STATE_DISCONNECTED = 0,
+    PILLAR_CONTROL_STATE_CONNECTED = 1,
+    PILLAR_CONTROL_STATE_READY_FOR_RECONNECTION = 2
 };
 
 /*
- * Writes the page of a fresh meter into the first PILLAR_PAGE bytes; bytes past
- * them stay. Answers PILLAR_MODE, PILLAR_THRESHOLD, PILLAR_DURATION, then
- * PILLAR_BUFFER.
+ * Control mode (003, Table 56). In each but 0 the centre disconnects, the
+ * limiter disconnects, and the key connects a switch that is ready.
  */
-uint32_t pillar_fresh(uint8_t *page, size_t length, uint32_t mode,
-                      int32_t threshold, uint32_t over, uint32_t under,
-                      uint32_t clock);
+enum pillar_control_mode {
+    PILLAR_CONTROL_MODE_NONE = 0, /* always connected: every request is refused */
+    PILLAR_CONTROL_MODE_1 = 1,    /* remote reconnect to ready; the key disconnects */
+    PILLAR_CONTROL_MODE_2 = 2,    /* remote reconnect to connected; the key disconnects */
+    PILLAR_CONTROL_MODE_3 = 3,    /* remote reconnect to ready */
+    PILLAR_CONTROL_MODE_4 = 4,    /* remote reconnect to connected */
+    PILLAR_CONTROL_MODE_5 = 5,    /* as 1, and the limiter reconnects */
+    PILLAR_CONTROL_MODE_6 = 6     /* as 3, and the limiter reconnects */
+};
+
+enum pillar_script {
+    PILLAR_SCRIPT_REMOTE_DISCONNECT = 1,
+    PILLAR_SCRIPT_REMOTE_RECONNECT = 2
+};
+
+enum pillar_log {
+    PILLAR_LOG_STANDARD = 1,
+    PILLAR_LOG_FRAUD = 2,
+    PILLAR_LOG_DISCONNECT = 3
+};
+
+/* The codes of pillar_report_event, log by log (003, Tables 44, 45 and 47). */
+enum pillar_event {
+    PILLAR_EVENT_POWER_DOWN = 1,
+    PILLAR_EVENT_POWER_UP = 2,
+    PILLAR_EVENT_CLOCK_INVALID = 6,
+    PILLAR_EVENT_REPLACE_BATTERY = 7,
+    PILLAR_EVENT_BATTERY_VOLTAGE_LOW = 8,
+    PILLAR_EVENT_PROGRAM_MEMORY_ERROR = 12,
+    PILLAR_EVENT_RAM_ERROR = 13,
+    PILLAR_EVENT_NV_MEMORY_ERROR = 14, /* non-volatile */
+    PILLAR_EVENT_WATCHDOG_ERROR = 15,
+    PILLAR_EVENT_MEASUREMENT_SYSTEM_ERROR = 16,
+
+    PILLAR_EVENT_TERMINAL_COVER_REMOVED = 40,
+    PILLAR_EVENT_TERMINAL_COVER_CLOSED = 41,
+    PILLAR_EVENT_STRONG_DC_FIELD_DETECTED = 42,
+    PILLAR_EVENT_NO_STRONG_DC_FIELD_ANYMORE = 43,
+    PILLAR_EVENT_METER_COVER_REMOVED = 44,
+    PILLAR_EVENT_METER_COVER_CLOSED = 45,
+    PILLAR_EVENT_ASSOCIATION_AUTHENTICATION_FAILURE = 46,
+
+    PILLAR_EVENT_DISCONNECT_RECONNECT_FAILURE = 68
+};
+
+/* The codes that the core logs by itself, besides: pillar_report_event refuses them. */
+enum pillar_logged {
+    PILLAR_LOGGED_CLOCK_ADJUSTED_OLD_DATE_TIME = 4, /* at the old clock */
+    PILLAR_LOGGED_CLOCK_ADJUSTED_NEW_DATE_TIME = 5, /* at the new clock */
+    PILLAR_LOGGED_ERROR_REGISTER_CLEARED = 10,
+    PILLAR_LOGGED_ALARM_REGISTER_CLEARED = 11,
+
+    PILLAR_LOGGED_DISCONNECTER_READY_FOR_MANUAL_RECONNECTION = 59,
+    PILLAR_LOGGED_MANUAL_DISCONNECTION = 60,
+    PILLAR_LOGGED_MANUAL_CONNECTION = 61,
+    PILLAR_LOGGED_REMOTE_DISCONNECTION = 62,
+    PILLAR_LOGGED_REMOTE_CONNECTION = 63,
+    PILLAR_LOGGED_LOCAL_DISCONNECTION = 64,
+    PILLAR_LOGGED_LIMITER_THRESHOLD_EXCEEDED = 65,
+    PILLAR_LOGGED_LIMITER_THRESHOLD_OK = 66,
+    PILLAR_LOGGED_LIMITER_THRESHOLD_CHANGED = 67,
+    PILLAR_LOGGED_LOCAL_RECONNECTION = 69,
+
+    PILLAR_LOGGED_EVENT_LOG_CLEARED = 255 /* in each log */
+};
+
+/* The bits that events set in the alarm register (003, Table 50); no call sets another. */
+#define PILLAR_ALARM_CLOCK_INVALID (UINT32_C(1) << 0)
+#define PILLAR_ALARM_REPLACE_BATTERY (UINT32_C(1) << 1)
+#define PILLAR_ALARM_PROGRAM_MEMORY_ERROR (UINT32_C(1) << 8)
+#define PILLAR_ALARM_RAM_ERROR (UINT32_C(1) << 9)
+#define PILLAR_ALARM_NV_MEMORY_ERROR (UINT32_C(1) << 10)
+#define PILLAR_ALARM_MEASUREMENT_SYSTEM_ERROR (UINT32_C(1) << 11)
+#define PILLAR_ALARM_WATCHDOG_ERROR (UINT32_C(1) << 12)
+#define PILLAR_ALARM_FRAUD_ATTEMPT (UINT32_C(1) << 13)
+
+/* The bits that events set in the error register (003, Table 53); no call sets another. */
+#define PILLAR_ERROR_CLOCK_INVALID (UINT32_C(1) << 0)
+#define PILLAR_ERROR_REPLACE_BATTERY (UINT32_C(1) << 1)
+#define PILLAR_ERROR_PROGRAM_MEMORY_ERROR (UINT32_C(1) << 8)
+#define PILLAR_ERROR_RAM_ERROR (UINT32_C(1) << 9)
+#define PILLAR_ERROR_NV_MEMORY_ERROR (UINT32_C(1) << 10)
+#define PILLAR_ERROR_MEASUREMENT_SYSTEM_ERROR (UINT32_C(1) << 11)
+#define PILLAR_ERROR_WATCHDOG_ERROR (UINT32_C(1) << 12)
+
+/* ---- The functions of the archive ---------------------------------------- */
+
+/*
+ * Writes the page of a fresh meter into the first PILLAR_PAGE_SIZE bytes; bytes
+ * past them stay. Answers PILLAR_REFUSED_CONTROL_MODE, .._THRESHOLD,
+ * .._DURATION, then .._BUFFER.
+ */
+uint32_t pillar_fresh(uint8_t *page, size_t length, uint32_t control_mode,
+                      int32_t threshold, uint32_t over_duration,
+                      uint32_t under_duration, uint32_t clock);
 
 /*
  * One of the fifteen calls on the meter of a page, which is then the page of
- * the meter after it. `kind` is one of pillar_kind; any other is PILLAR_KIND,
- * whatever the page holds. Then it answers PILLAR_LENGTH, PILLAR_PAIRS,
- * PILLAR_UNSOUND, then the refusals of the call.
+ * the meter after it. `kind` is one of enum pillar_kind; 0 and any other is
+ * PILLAR_REFUSED_KIND, whatever the page holds. Then it answers
+ * PILLAR_REFUSED_PAGE_LENGTH, .._PAGE_PAIRS, .._PAGE_UNSOUND, then the refusals
+ * of the call. Each kind has an inline function below.
  */
 uint32_t pillar_call(uint8_t *page, size_t length, uint32_t kind, uint32_t n1,
                      uint32_t n2, uint32_t n3, uint32_t n4, uint32_t n5);
 
 /*
- * Runs a whole list of records of PILLAR_RECORD bytes: the kind, then five
- * big-endian numbers of 32 bits. The first has kind 0 and is fresh (mode,
- * threshold, over, under, clock); the others are calls, refused ones among
- * them. Writes the page of the list's history into the first PILLAR_PAGE bytes
- * of `page`; bytes past them stay. Answers PILLAR_EMPTY, PILLAR_SHORT (the
- * first record), PILLAR_BAD, the refusals of fresh, PILLAR_SHORT (a later
- * record), then PILLAR_BUFFER. The two ranges of bytes must not overlap.
+ * Runs a whole list of records of PILLAR_RECORD_SIZE bytes: the kind, then five
+ * big-endian numbers of 32 bits. The first is PILLAR_KIND_FRESH (control mode,
+ * threshold, over duration, under duration, clock); the others are calls,
+ * refused ones among them. Writes the page of the list's history into the first
+ * PILLAR_PAGE_SIZE bytes of `page`; bytes past them stay. Answers
+ * PILLAR_REFUSED_LIST_EMPTY, .._LIST_SHORT (the first record), .._LIST_BAD, the
+ * refusals of fresh, .._LIST_SHORT (a later record), then .._BUFFER. The two
+ * ranges of bytes must not overlap.
  */
 uint32_t pillar_replay(const uint8_t *records, size_t records_length,
                        uint8_t *page, size_t page_length);
 
-/* Whether pillar_call can read a page: PILLAR_LENGTH, PILLAR_PAIRS, PILLAR_UNSOUND. */
+/*
+ * Whether pillar_call can read a page: PILLAR_REFUSED_PAGE_LENGTH,
+ * .._PAGE_PAIRS, .._PAGE_UNSOUND.
+ */
 uint32_t pillar_check(const uint8_t *page, size_t length);
+
+/* ---- The fifteen calls by name -------------------------------------------
+ *
+ * Each is pillar_call with its kind, and answers as it does. Numbers go over
+ * whole: a control mode of 256 is refused, and never taken for 0.
+ */
+
+/* One second's power in watts; export is negative. */
+static inline uint32_t pillar_sample(uint8_t *page, size_t length, int32_t watts)
+{
+    return pillar_call(page, length, PILLAR_KIND_SAMPLE, (uint32_t)watts, 0, 0, 0, 0);
+}
+
+/* The network centre's requests. */
+static inline uint32_t pillar_remote_disconnect(uint8_t *page, size_t length)
+{
+    return pillar_call(page, length, PILLAR_KIND_REMOTE_DISCONNECT, 0, 0, 0, 0, 0);
+}
+
+static inline uint32_t pillar_remote_reconnect(uint8_t *page, size_t length)
+{
+    return pillar_call(page, length, PILLAR_KIND_REMOTE_RECONNECT, 0, 0, 0, 0, 0);
+}
+
+/* The holder's, by the key. */
+static inline uint32_t pillar_manual_disconnect(uint8_t *page, size_t length)
+{
+    return pillar_call(page, length, PILLAR_KIND_MANUAL_DISCONNECT, 0, 0, 0, 0, 0);
+}
+
+static inline uint32_t pillar_manual_reconnect(uint8_t *page, size_t length)
+{
+    return pillar_call(page, length, PILLAR_KIND_MANUAL_RECONNECT, 0, 0, 0, 0, 0);
+}
+
+static inline uint32_t pillar_set_control_mode(uint8_t *page, size_t length, uint32_t control_mode)
+{
+    return pillar_call(page, length, PILLAR_KIND_SET_CONTROL_MODE, control_mode, 0, 0, 0, 0);
+}
+
+/* The threshold in watts, 0 or more; both durations in samples, 1 to 86400. */
+static inline uint32_t pillar_set_limiter(uint8_t *page, size_t length, int32_t threshold,
+                                          uint32_t over_duration, uint32_t under_duration)
+{
+    return pillar_call(page, length, PILLAR_KIND_SET_LIMITER, (uint32_t)threshold, over_duration,
+                       under_duration, 0, 0);
+}
+
+static inline uint32_t pillar_set_clock(uint8_t *page, size_t length, uint32_t seconds)
+{
+    return pillar_call(page, length, PILLAR_KIND_SET_CLOCK, seconds, 0, 0, 0, 0);
+}
+
+/* A code of enum pillar_event. */
+static inline uint32_t pillar_report_event(uint8_t *page, size_t length, uint32_t code)
+{
+    return pillar_call(page, length, PILLAR_KIND_REPORT_EVENT, code, 0, 0, 0, 0);
+}
+
+/* A one hides its bit from later events; bits that are set stay set. */
+static inline uint32_t pillar_set_alarm_filter(uint8_t *page, size_t length, uint32_t filter)
+{
+    return pillar_call(page, length, PILLAR_KIND_SET_ALARM_FILTER, filter, 0, 0, 0, 0);
+}
+
+static inline uint32_t pillar_set_error_filter(uint8_t *page, size_t length, uint32_t filter)
+{
+    return pillar_call(page, length, PILLAR_KIND_SET_ERROR_FILTER, filter, 0, 0, 0, 0);
+}
+
+/* The ones of the mask are cleared. */
+static inline uint32_t pillar_clear_alarms(uint8_t *page, size_t length, uint32_t mask)
+{
+    return pillar_call(page, length, PILLAR_KIND_CLEAR_ALARMS, mask, 0, 0, 0, 0);
+}
+
+static inline uint32_t pillar_clear_errors(uint8_t *page, size_t length, uint32_t mask)
+{
+    return pillar_call(page, length, PILLAR_KIND_CLEAR_ERRORS, mask, 0, 0, 0, 0);
+}
+
+/* The log then holds one line, PILLAR_LOGGED_EVENT_LOG_CLEARED. */
+static inline uint32_t pillar_clear_log(uint8_t *page, size_t length, uint32_t log)
+{
+    return pillar_call(page, length, PILLAR_KIND_CLEAR_LOG, log, 0, 0, 0, 0);
+}
+
+static inline uint32_t pillar_execute_script(uint8_t *page, size_t length, uint32_t script)
+{
+    return pillar_call(page, length, PILLAR_KIND_EXECUTE_SCRIPT, script, 0, 0, 0, 0);
+}
+
+/* ---- Reading off a page --------------------------------------------------
+ *
+ * Each takes PILLAR_PAGE_SIZE bytes and does not test them: pillar_check does,
+ * and a page that the core wrote and nobody changed since is a good one.
+ */
+
+/* A big-endian number of 32 bits. */
+static inline uint32_t pillar_get_number(const uint8_t *page, size_t offset)
+{
+    return (uint32_t)page[offset] << 24 | (uint32_t)page[offset + 1] << 16
+           | (uint32_t)page[offset + 2] << 8 | (uint32_t)page[offset + 3];
+}
+
+/* One of enum pillar_control_mode. */
+static inline uint8_t pillar_get_control_mode(const uint8_t *page)
+{
+    return page[PILLAR_OFFSET_CONTROL_MODE];
+}
+
+/* One of enum pillar_control_state. */
+static inline uint8_t pillar_get_control_state(const uint8_t *page)
+{
+    return page[PILLAR_OFFSET_CONTROL_STATE];
+}
+
+static inline bool pillar_supply_is_on(const uint8_t *page)
+{
+    return pillar_get_control_state(page) == PILLAR_CONTROL_STATE_CONNECTED;
+}
+
+/* How often the switch has left the state Connected, held at 4294967295. */
+static inline uint32_t pillar_get_openings(const uint8_t *page)
+{
+    return pillar_get_number(page, PILLAR_OFFSET_OPENINGS);
+}
+
+/* The limiter's threshold, in watts. */
+static inline int32_t pillar_get_threshold(const uint8_t *page)
+{
+    return (int32_t)pillar_get_number(page, PILLAR_OFFSET_THRESHOLD);
+}
+
+/* Over and under duration, in samples. */
+static inline uint32_t pillar_get_over_duration(const uint8_t *page)
+{
+    return pillar_get_number(page, PILLAR_OFFSET_OVER_DURATION);
+}
+
+static inline uint32_t pillar_get_under_duration(const uint8_t *page)
+{
+    return pillar_get_number(page, PILLAR_OFFSET_UNDER_DURATION);
+}
+
+/* Whether the limiter has fired over, and not under since. */
+static inline bool pillar_get_exceeded(const uint8_t *page)
+{
+    return page[PILLAR_OFFSET_EXCEEDED] != 0;
+}
+
+/* The latest samples in a row that count towards the next firing. */
+static inline uint32_t pillar_get_run(const uint8_t *page)
+{
+    return pillar_get_number(page, PILLAR_OFFSET_RUN);
+}
+
+/* In seconds, held at 4294967295. */
+static inline uint32_t pillar_get_clock(const uint8_t *page)
+{
+    return pillar_get_number(page, PILLAR_OFFSET_CLOCK);
+}
+
+/* PILLAR_ALARM_.. bits. */
+static inline uint32_t pillar_get_alarm_register(const uint8_t *page)
+{
+    return pillar_get_number(page, PILLAR_OFFSET_ALARM_REGISTER);
+}
+
+static inline uint32_t pillar_get_alarm_filter(const uint8_t *page)
+{
+    return pillar_get_number(page, PILLAR_OFFSET_ALARM_FILTER);
+}
+
+/* PILLAR_ERROR_.. bits. */
+static inline uint32_t pillar_get_error_register(const uint8_t *page)
+{
+    return pillar_get_number(page, PILLAR_OFFSET_ERROR_REGISTER);
+}
+
+static inline uint32_t pillar_get_error_filter(const uint8_t *page)
+{
+    return pillar_get_number(page, PILLAR_OFFSET_ERROR_FILTER);
+}
+
+/* The lines that a log holds; 0 for a number that is not of enum pillar_log. */
+static inline uint8_t pillar_get_log_count(const uint8_t *page, uint32_t log)
+{
+    if (log - 1 >= PILLAR_LOGS)
+        return 0;
+    return page[PILLAR_OFFSET_LOG_COUNT(log)];
+}
+
+/* A line of a log. Its code is of enum pillar_event or enum pillar_logged. */
+struct pillar_line {
+    uint32_t clock;
+    uint8_t code;
+};
+
+/* Line 0 is the oldest. Clock 0 and code 0 past the count, and where there is no such log. */
+static inline struct pillar_line pillar_get_log_line(const uint8_t *page, uint32_t log,
+                                                     uint32_t line)
+{
+    struct pillar_line found = {0, 0};
+    if (log - 1 < PILLAR_LOGS && line < PILLAR_LINES_PER_LOG) {
+        found.clock = pillar_get_number(page, PILLAR_OFFSET_LINE_CLOCK(log, line));
+        found.code = page[PILLAR_OFFSET_LINE_CODE(log, line)];
+    }
+    return found;
+}
 
 #ifdef __cplusplus
 }

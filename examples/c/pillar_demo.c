@@ -1,6 +1,6 @@
 /*
  * Document 01's worked example through the C interface, call by call and as
- * one list, then wrong input.
+ * one list, what the page then holds, and wrong input.
  *
  *   rt staticlib pillar
  *   gcc -std=c99 -Wall -Wextra -pedantic -Iinclude -o target/pillar_demo examples/c/pillar_demo.c target/staticlib/libpillar.a
@@ -11,72 +11,104 @@
 #include <stdio.h>
 #include <string.h>
 
-/* Where the page has the control area: mode, switch, openings. */
-enum { CONTROL = 32, SWITCH = CONTROL + 1, OPENINGS = CONTROL + 2 };
-
 struct call {
     uint32_t kind;
     uint32_t number;
 };
 
-/* A negative power passes as two's complement. */
+/* A negative power passes as two's complement. Script 3 and control mode 7 are refused. */
 static const struct call calls[] = {
-    {1, 3000}, {1, 3001}, {1, 3001}, {5, 0},  {1, 0}, {1, (uint32_t)-5}, {1, 0},
-    {2, 0},    {5, 0},    {15, 3},   {15, 2}, {6, 7}, {6, 0},            {2, 0},
+    {PILLAR_KIND_SAMPLE, 3000},
+    {PILLAR_KIND_SAMPLE, 3001},
+    {PILLAR_KIND_SAMPLE, 3001},
+    {PILLAR_KIND_MANUAL_RECONNECT, 0},
+    {PILLAR_KIND_SAMPLE, 0},
+    {PILLAR_KIND_SAMPLE, (uint32_t)-5},
+    {PILLAR_KIND_SAMPLE, 0},
+    {PILLAR_KIND_REMOTE_DISCONNECT, 0},
+    {PILLAR_KIND_MANUAL_RECONNECT, 0},
+    {PILLAR_KIND_EXECUTE_SCRIPT, 3},
+    {PILLAR_KIND_EXECUTE_SCRIPT, PILLAR_SCRIPT_REMOTE_RECONNECT},
+    {PILLAR_KIND_SET_CONTROL_MODE, 7},
+    {PILLAR_KIND_SET_CONTROL_MODE, PILLAR_CONTROL_MODE_NONE},
+    {PILLAR_KIND_REMOTE_DISCONNECT, 0},
 };
 
 enum { CALLS = sizeof calls / sizeof calls[0] };
 
-/* The record of the fresh meter: mode 5, threshold 3000, over 2, under 3, clock 1000. */
-static const uint8_t fresh[PILLAR_RECORD] = {0, 0, 0, 0, 5, 0, 0, 0x0b, 0xb8, 0, 0, 0, 2, 0, 0, 0, 3, 0, 0, 3, 0xe8};
+/* Document 01: 'Log 3 then: 65, 64, 61 at 1003; 66, 62, 59, 63 at 1006'. */
+static const struct pillar_line lines[] = {
+    {1003, PILLAR_LOGGED_LIMITER_THRESHOLD_EXCEEDED},
+    {1003, PILLAR_LOGGED_LOCAL_DISCONNECTION},
+    {1003, PILLAR_LOGGED_MANUAL_CONNECTION},
+    {1006, PILLAR_LOGGED_LIMITER_THRESHOLD_OK},
+    {1006, PILLAR_LOGGED_REMOTE_DISCONNECTION},
+    {1006, PILLAR_LOGGED_DISCONNECTER_READY_FOR_MANUAL_RECONNECTION},
+    {1006, PILLAR_LOGGED_REMOTE_CONNECTION},
+};
 
-static uint32_t number_at(const uint8_t *bytes)
-{
-    return (uint32_t)bytes[0] << 24 | (uint32_t)bytes[1] << 16 | (uint32_t)bytes[2] << 8 | bytes[3];
-}
+enum { LINES = sizeof lines / sizeof lines[0] };
 
-static void put_number(uint8_t *bytes, uint32_t number)
+/* The settings of the fresh meter. */
+enum { THRESHOLD = 3000, OVER_DURATION = 2, UNDER_DURATION = 3, CLOCK = 1000 };
+
+static void put_record(uint8_t *record, uint32_t kind, const uint32_t numbers[5])
 {
-    for (int i = 0; i < 4; i++)
-        bytes[i] = (uint8_t)(number >> (24 - 8 * i));
+    record[0] = (uint8_t)kind;
+    for (int i = 0; i < 20; i++)
+        record[1 + i] = (uint8_t)(numbers[i / 4] >> (24 - 8 * (i % 4)));
 }
 
 static void print_line(size_t position, uint32_t answer, const uint8_t *page)
 {
-    printf("%zu %" PRIu32 " %u %" PRIu32 "\n", position, answer, (unsigned)page[SWITCH], number_at(page + OPENINGS));
+    printf("%zu %" PRIu32 " %u %" PRIu32 "\n", position, answer, (unsigned)pillar_get_control_state(page), pillar_get_openings(page));
 }
 
 /* Whether the reader takes the page, and the same calls as one list leave the same. */
 static int replayed(const uint8_t *page)
 {
-    uint8_t list[(1 + CALLS) * PILLAR_RECORD] = {0};
-    memcpy(list, fresh, sizeof fresh);
+    static uint8_t list[(1 + CALLS) * PILLAR_RECORD_SIZE];
+    const uint32_t settings[5] = {PILLAR_CONTROL_MODE_5, THRESHOLD, OVER_DURATION, UNDER_DURATION, CLOCK};
+    put_record(list, PILLAR_KIND_FRESH, settings);
     for (size_t i = 0; i < CALLS; i++) {
-        uint8_t *record = list + (1 + i) * PILLAR_RECORD;
-        record[0] = (uint8_t)calls[i].kind;
-        put_number(record + 1, calls[i].number);
+        const uint32_t numbers[5] = {calls[i].number};
+        put_record(list + (1 + i) * PILLAR_RECORD_SIZE, calls[i].kind, numbers);
     }
-    uint8_t whole[PILLAR_PAGE] = {0};
-    uint32_t checked = pillar_check(page, PILLAR_PAGE);
+    uint8_t whole[PILLAR_PAGE_SIZE] = {0};
+    uint32_t checked = pillar_check(page, PILLAR_PAGE_SIZE);
     uint32_t answer = pillar_replay(list, sizeof list, whole, sizeof whole);
-    int same = memcmp(whole, page, PILLAR_PAGE) == 0;
+    int same = memcmp(whole, page, PILLAR_PAGE_SIZE) == 0;
     printf("check of the page: %" PRIu32 "\n", checked);
     printf("the calls as one list: %" PRIu32 ", %s page\n", answer, same ? "the same" : "another");
     return checked == PILLAR_ACCEPTED && answer == PILLAR_ACCEPTED && same;
 }
 
+/* Whether the page holds what document 01 says of it. */
+static int held(const uint8_t *page)
+{
+    uint32_t count = pillar_get_log_count(page, PILLAR_LOG_DISCONNECT);
+    int right = pillar_supply_is_on(page) && count == LINES;
+    printf("supply: %s\n", pillar_supply_is_on(page) ? "on" : "off");
+    for (uint32_t i = 0; i < count; i++) {
+        struct pillar_line line = pillar_get_log_line(page, PILLAR_LOG_DISCONNECT, i);
+        printf("disconnect log: %u at %" PRIu32 "\n", (unsigned)line.code, line.clock);
+        right &= i < LINES && line.clock == lines[i].clock && line.code == lines[i].code;
+    }
+    return right;
+}
+
 /* Whether a refusal came with this number and left the page as it was. */
 static int refused(const char *what, uint32_t answer, uint32_t expected, const uint8_t *page, const uint8_t *before)
 {
-    int kept = memcmp(page, before, PILLAR_PAGE) == 0;
+    int kept = memcmp(page, before, PILLAR_PAGE_SIZE) == 0;
     printf("%s: %" PRIu32 ", page %s\n", what, answer, kept ? "kept" : "changed");
     return answer == expected && kept;
 }
 
 int main(void)
 {
-    uint8_t page[PILLAR_PAGE] = {0};
-    uint32_t answer = pillar_fresh(page, sizeof page, 5, 3000, 2, 3, 1000);
+    uint8_t page[PILLAR_PAGE_SIZE] = {0};
+    uint32_t answer = pillar_fresh(page, sizeof page, PILLAR_CONTROL_MODE_5, THRESHOLD, OVER_DURATION, UNDER_DURATION, CLOCK);
     print_line(1, answer, page);
     for (size_t i = 0; i < CALLS; i++) {
         answer = pillar_call(page, sizeof page, calls[i].kind, calls[i].number, 0, 0, 0, 0);
@@ -84,22 +116,28 @@ int main(void)
     }
 
     int right = replayed(page);
-    uint8_t before[PILLAR_PAGE];
-    memcpy(before, page, sizeof page);
-    right &= refused("fresh into a short buffer", pillar_fresh(page, PILLAR_PAGE - 1, 5, 3000, 2, 3, 1000), PILLAR_BUFFER, page, before);
-    right &= refused("call on a short page", pillar_call(page, PILLAR_PAGE - 1, 2, 0, 0, 0, 0, 0), PILLAR_LENGTH, page, before);
-    right &= refused("call of kind 16", pillar_call(page, sizeof page, 16, 0, 0, 0, 0, 0), PILLAR_KIND, page, before);
-    right &= refused("call of kind 16 on a short page", pillar_call(page, PILLAR_PAGE - 1, 16, 0, 0, 0, 0, 0), PILLAR_KIND, page, before);
-    right &= refused("list without a byte", pillar_replay(before, 0, page, sizeof page), PILLAR_EMPTY, page, before);
-    right &= refused("list that does not begin with fresh", pillar_replay((const uint8_t[PILLAR_RECORD]){2}, PILLAR_RECORD, page, sizeof page), PILLAR_BAD, page, before);
+    right &= held(page);
 
-    /* A pair of the directory, then the mode. */
+    uint8_t before[PILLAR_PAGE_SIZE];
+    const uint8_t not_fresh[PILLAR_RECORD_SIZE] = {PILLAR_KIND_REMOTE_DISCONNECT};
+    const uint32_t unknown = PILLAR_KIND_EXECUTE_SCRIPT + 1;
+    memcpy(before, page, sizeof page);
+    right &= refused("fresh into a short buffer", pillar_fresh(page, sizeof page - 1, PILLAR_CONTROL_MODE_5, THRESHOLD, OVER_DURATION, UNDER_DURATION, CLOCK), PILLAR_REFUSED_BUFFER, page, before);
+    right &= refused("a negative threshold", pillar_set_limiter(page, sizeof page, -1, OVER_DURATION, UNDER_DURATION), PILLAR_REFUSED_THRESHOLD, page, before);
+    right &= refused("an event that is not listed", pillar_report_event(page, sizeof page, PILLAR_LOGGED_REMOTE_DISCONNECTION), PILLAR_REFUSED_EVENT_CODE, page, before);
+    right &= refused("call on a short page", pillar_remote_disconnect(page, sizeof page - 1), PILLAR_REFUSED_PAGE_LENGTH, page, before);
+    right &= refused("call of an unknown kind", pillar_call(page, sizeof page, unknown, 0, 0, 0, 0, 0), PILLAR_REFUSED_KIND, page, before);
+    right &= refused("call of an unknown kind on a short page", pillar_call(page, sizeof page - 1, unknown, 0, 0, 0, 0, 0), PILLAR_REFUSED_KIND, page, before);
+    right &= refused("list without a byte", pillar_replay(before, 0, page, sizeof page), PILLAR_REFUSED_LIST_EMPTY, page, before);
+    right &= refused("list that does not begin with fresh", pillar_replay(not_fresh, sizeof not_fresh, page, sizeof page), PILLAR_REFUSED_LIST_BAD, page, before);
+
+    /* A pair of the directory, then the control mode. */
     page[0] ^= 1;
     memcpy(before, page, sizeof page);
-    right &= refused("call on a page with another pair", pillar_call(page, sizeof page, 2, 0, 0, 0, 0, 0), PILLAR_PAIRS, page, before);
+    right &= refused("call on a page with another pair", pillar_remote_disconnect(page, sizeof page), PILLAR_REFUSED_PAGE_PAIRS, page, before);
     page[0] ^= 1;
-    page[CONTROL] = 7;
+    page[PILLAR_OFFSET_CONTROL_MODE] = 7;
     memcpy(before, page, sizeof page);
-    right &= refused("check of a page with mode 7", pillar_check(page, sizeof page), PILLAR_UNSOUND, page, before);
+    right &= refused("check of a page with control mode 7", pillar_check(page, sizeof page), PILLAR_REFUSED_PAGE_UNSOUND, page, before);
     return right ? 0 : 1;
 }

@@ -29,10 +29,11 @@ pub const UNSOUND: u8 = 12;
 /// Kind "not 1–15"
 pub const KIND: u8 = 13;
 
-/// `PILLAR_EMPTY`: a list without a byte
+/// `PILLAR_REFUSED_LIST_EMPTY`: a list without a byte
 pub const EMPTY_LIST: u8 = 100;
-/// `PILLAR_BAD`: "The first has kind 0 and is fresh, else one line `bad` ends
-/// it"
+/// `PILLAR_REFUSED_LIST_BAD`: "The first has kind 0 and is fresh, else one line
+/// `bad` ends it"
 pub const BAD_LIST: u8 = 101;
-/// `PILLAR_SHORT`: "a cut record, the first too, writes `short` and ends"
+/// `PILLAR_REFUSED_LIST_SHORT`: "a cut record, the first too, writes `short` and
+/// ends"
 pub const SHORT_LIST: u8 = 102;

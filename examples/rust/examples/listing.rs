@@ -2,7 +2,9 @@
 
 use pillar::{Answer, PAGE, Settings};
 
-const SWITCH: usize = 33;
+/// Where the page has the control state and the openings.
+const CONTROL_STATE: usize = 33;
+const OPENINGS: usize = 34;
 
 const CALLS: [(u32, i32); 14] = [
     (1, 3000),
@@ -41,6 +43,6 @@ fn main() {
 /// "Per record a line: position from 1, refusal or 0, switch, openings."
 fn print(position: u32, answer: Answer, page: &[u8; PAGE]) {
     let refusal = answer.err().unwrap_or(0);
-    let openings = u32::from_be_bytes([page[34], page[35], page[36], page[37]]);
-    println!("{position} {refusal} {} {openings}", page[SWITCH]);
+    let openings = u32::from_be_bytes([0, 1, 2, 3].map(|byte| page[OPENINGS + byte]));
+    println!("{position} {refusal} {} {openings}", page[CONTROL_STATE]);
 }

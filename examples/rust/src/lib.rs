@@ -15,13 +15,13 @@ use linked as core;
 #[cfg(feature = "stand-in")]
 use stand_in as core;
 
-/// The page's length.
+/// The page's length, `PILLAR_PAGE_SIZE`.
 pub const PAGE: usize = 558;
 
 /// Whether plain runs here in the proved core's place.
 pub const STAND_IN: bool = cfg!(feature = "stand-in");
 
-/// `Ok(())`, or the number of the refusal.
+/// `Ok(())`, or the number of the refusal, which `include/pillar.h` names.
 pub type Answer = Result<(), u32>;
 
 /// The numbers of a fresh meter.
@@ -39,8 +39,9 @@ pub fn fresh(page: &mut [u8], settings: Settings) -> Answer {
     answer(core::fresh(page, settings))
 }
 
-/// Runs one call on the meter whose page is lent: 13 by the kind, then 9, 10
-/// or 11 from the reader, then the call's own refusal.
+/// Runs one call on the meter whose page is lent; the kinds and their numbers
+/// are those of `enum pillar_kind`. 13 by the kind, then 9, 10 or 11 from the
+/// reader, then the call's own refusal.
 pub fn call(page: &mut [u8], kind: u32, numbers: [u32; 5]) -> Answer {
     answer(core::call(page, kind, numbers))
 }

@@ -1,0 +1,509 @@
+/*
+ * Compares include/pillar.h with the archive: sizes and offsets with the pages
+ * that it writes, numbers with what it answers and does. No offset is written
+ * down here: it is right if a value that a call has set is found there. Prints
+ * each difference; the exit status is 1 if there is one. tests/header builds
+ * and runs it, as C99 and as C++11.
+ */
+#include "pillar.h"
+
+#include <inttypes.h>
+#include <stdio.h>
+#include <string.h>
+
+/* More bytes than a page has, so that lengths can be tried. */
+enum { ROOM = 2048 };
+
+static uint8_t page[ROOM];
+
+#define PAGE page, PILLAR_PAGE_SIZE
+#define COUNT_OF(array) (sizeof(array) / sizeof(array)[0])
+
+static unsigned differences;
+
+/* The number that a loop is at: a length, a log, a code, a kind. */
+static uint32_t at;
+
+static void same(int line, const char *what, uint32_t header, uint32_t core)
+{
+    if (header == core)
+        return;
+    if (++differences <= 20)
+        printf("line %d, at %" PRIu32 ": %s: the header has %" PRIu32 ", the core %" PRIu32 "\n", line, at, what, header, core);
+}
+
+/* What the header says, and what the core does. */
+#define SAME(header, core) same(__LINE__, #header, header, core)
+#define ACCEPTED(call) same(__LINE__, #call, PILLAR_ACCEPTED, call)
+
+/* A fresh meter: threshold 0, durations of one sample, clock 0. */
+static void fresh(uint32_t control_mode)
+{
+    ACCEPTED(pillar_fresh(PAGE, control_mode, 0, 1, 1, 0));
+}
+
+/* ---- Sizes and offsets --------------------------------------------------- */
+
+/* The shortest buffer that is written, the one length that is read, the first record that is whole. */
+static void sizes(void)
+{
+    static const uint8_t zeros[ROOM] = {0};
+    at = 0;
+    while (at < ROOM && pillar_fresh(page, at, 0, 0, 1, 1, 0) == PILLAR_REFUSED_BUFFER)
+        at++;
+    SAME(PILLAR_PAGE_SIZE, at);
+    fresh(0);
+    for (at = 0; at <= ROOM; at++)
+        SAME(at == PILLAR_PAGE_SIZE ? PILLAR_ACCEPTED : PILLAR_REFUSED_PAGE_LENGTH, pillar_check(page, at));
+
+    at = 1;
+    while (at < ROOM && pillar_replay(zeros, at, PAGE) == PILLAR_REFUSED_LIST_SHORT)
+        at++;
+    SAME(PILLAR_RECORD_SIZE, at);
+}
+
+struct area {
+    const char *name;
+    uint32_t offset;
+    uint32_t length;
+};
+
+#define AREA(name) {#name, PILLAR_OFFSET_##name, PILLAR_LENGTH_##name}
+#define LOG_AREA(log) {#log, PILLAR_OFFSET_LOG(log), PILLAR_LENGTH_LOG}
+
+static const struct area areas[] = {
+    AREA(CONTROL),
+    AREA(LIMITER),
+    AREA(CLOCK),
+    AREA(ALARMS),
+    AREA(ERRORS),
+    LOG_AREA(PILLAR_LOG_STANDARD),
+    LOG_AREA(PILLAR_LOG_FRAUD),
+    LOG_AREA(PILLAR_LOG_DISCONNECT),
+};
+
+/* The directory of a page that the core has written; the areas fill the page behind it. */
+static void directory(void)
+{
+    uint32_t end = PILLAR_DIRECTORY_SIZE;
+    fresh(0);
+    SAME(PILLAR_AREAS, (uint32_t)COUNT_OF(areas));
+    for (uint32_t i = 0; i < COUNT_OF(areas); i++) {
+        uint32_t pair = pillar_get_number(page, i * PILLAR_PAIR_SIZE);
+        same(__LINE__, areas[i].name, areas[i].offset, pair >> 16);
+        same(__LINE__, areas[i].name, areas[i].length, pair & 0xffff);
+        SAME(end, pair >> 16);
+        end += pair & 0xffff;
+    }
+    SAME(PILLAR_PAGE_SIZE, end);
+}
+
+/* A field holds the value that the core has put there, and its function reads it. */
+static void field(int line, const char *name, uint32_t offset, uint32_t length, uint32_t value, uint32_t read)
+{
+    uint32_t held = 0;
+    for (uint32_t i = 0; i < length; i++)
+        held = held << 8 | page[offset + i];
+    same(line, name, held, value);
+    same(line, name, read, value);
+}
+
+#define FIELD(name, value, read) field(__LINE__, #name, PILLAR_OFFSET_##name, PILLAR_LENGTH_##name, value, read)
+
+static void put(uint32_t offset, uint32_t number)
+{
+    for (uint32_t i = 0; i < 4; i++)
+        page[offset + i] = (uint8_t)(number >> (24 - 8 * i));
+}
+
+/* Every field with bytes of its own. */
+static void fields(void)
+{
+    ACCEPTED(pillar_fresh(PAGE, PILLAR_CONTROL_MODE_5, 0x01020304, 0x010506, 0x010708, 0x090a0b0c));
+    ACCEPTED(pillar_set_alarm_filter(PAGE, 0x11121314));
+    ACCEPTED(pillar_set_error_filter(PAGE, 0x21222324));
+    FIELD(CONTROL_MODE, PILLAR_CONTROL_MODE_5, pillar_get_control_mode(page));
+    FIELD(CONTROL_STATE, PILLAR_CONTROL_STATE_CONNECTED, pillar_get_control_state(page));
+    FIELD(OPENINGS, 0, pillar_get_openings(page));
+    FIELD(THRESHOLD, 0x01020304, (uint32_t)pillar_get_threshold(page));
+    FIELD(OVER_DURATION, 0x010506, pillar_get_over_duration(page));
+    FIELD(UNDER_DURATION, 0x010708, pillar_get_under_duration(page));
+    FIELD(EXCEEDED, 0, pillar_get_exceeded(page));
+    FIELD(RUN, 0, pillar_get_run(page));
+    FIELD(CLOCK, 0x090a0b0c, pillar_get_clock(page));
+    FIELD(ALARM_REGISTER, 0, pillar_get_alarm_register(page));
+    FIELD(ALARM_FILTER, 0x11121314, pillar_get_alarm_filter(page));
+    FIELD(ERROR_REGISTER, 0, pillar_get_error_register(page));
+    FIELD(ERROR_FILTER, 0x21222324, pillar_get_error_filter(page));
+
+    ACCEPTED(pillar_set_control_mode(PAGE, PILLAR_CONTROL_MODE_6));
+    ACCEPTED(pillar_set_limiter(PAGE, 0x7f414243, 0x015180, 0x014748));
+    ACCEPTED(pillar_set_clock(PAGE, 0xf9fafbfc));
+    FIELD(CONTROL_MODE, PILLAR_CONTROL_MODE_6, pillar_get_control_mode(page));
+    FIELD(THRESHOLD, 0x7f414243, (uint32_t)pillar_get_threshold(page));
+    FIELD(OVER_DURATION, 0x015180, pillar_get_over_duration(page));
+    FIELD(UNDER_DURATION, 0x014748, pillar_get_under_duration(page));
+    FIELD(CLOCK, 0xf9fafbfc, pillar_get_clock(page));
+
+    /* A run of three bytes, and its end. */
+    for (uint32_t i = 0; i < 0x010203; i++)
+        ACCEPTED(pillar_sample(PAGE, 0x7f414244));
+    FIELD(RUN, 0x010203, pillar_get_run(page));
+    FIELD(CLOCK, 0xf9fafbfc + 0x010203, pillar_get_clock(page));
+    for (uint32_t i = 0x010203; i < 0x015180; i++)
+        ACCEPTED(pillar_sample(PAGE, 0x7f414244));
+    FIELD(RUN, 0, pillar_get_run(page));
+    FIELD(EXCEEDED, 1, pillar_get_exceeded(page));
+    FIELD(OPENINGS, 1, pillar_get_openings(page));
+    FIELD(CONTROL_STATE, PILLAR_CONTROL_STATE_READY_FOR_RECONNECTION, pillar_get_control_state(page));
+
+    /* Where calls alone would take too long, or never come: the core goes on from a changed page. */
+    fresh(PILLAR_CONTROL_MODE_1);
+    put(PILLAR_OFFSET_OPENINGS, 0x00ffffff);
+    put(PILLAR_OFFSET_ALARM_REGISTER, 0xffffffff);
+    put(PILLAR_OFFSET_ERROR_REGISTER, 0xffffffff);
+    ACCEPTED(pillar_remote_disconnect(PAGE));
+    ACCEPTED(pillar_clear_alarms(PAGE, 0x01020304));
+    ACCEPTED(pillar_clear_errors(PAGE, 0x11121314));
+    FIELD(OPENINGS, 0x01000000, pillar_get_openings(page));
+    FIELD(ALARM_REGISTER, 0xfefdfcfb, pillar_get_alarm_register(page));
+    FIELD(ERROR_REGISTER, 0xeeedeceb, pillar_get_error_register(page));
+}
+
+/* ---- The logs ------------------------------------------------------------ */
+
+static uint32_t clock_after(uint32_t settings)
+{
+    return 0x01020304 * (settings + 1);
+}
+
+/* Line n, from 0, of all that the settings of the clock below put into a log. */
+static struct pillar_line line_owed(uint32_t log, uint32_t n)
+{
+    struct pillar_line owed = {clock_after(n + 1), 0};
+    if (log == PILLAR_LOG_STANDARD) {
+        owed.clock = clock_after((n + 1) / 2);
+        owed.code = n % 2 == 0 ? PILLAR_LOGGED_CLOCK_ADJUSTED_OLD_DATE_TIME : PILLAR_LOGGED_CLOCK_ADJUSTED_NEW_DATE_TIME;
+    } else if (log == PILLAR_LOG_FRAUD) {
+        owed.code = n % 2 == 0 ? PILLAR_EVENT_TERMINAL_COVER_REMOVED : PILLAR_EVENT_METER_COVER_CLOSED;
+    } else {
+        owed.code = PILLAR_LOGGED_LIMITER_THRESHOLD_CHANGED;
+    }
+    return owed;
+}
+
+/* A log after so many lines: the newest, and nothing past them. */
+static void log_holds(uint32_t log, uint32_t lines)
+{
+    uint32_t held = lines < PILLAR_LINES_PER_LOG ? lines : PILLAR_LINES_PER_LOG;
+    SAME(pillar_get_log_count(page, log), held);
+    for (uint32_t i = 0; i < PILLAR_LINES_PER_LOG + 2; i++) {
+        struct pillar_line found = pillar_get_log_line(page, log, i);
+        struct pillar_line owed = {0, 0};
+        if (i < held)
+            owed = line_owed(log, lines - held + i);
+        SAME(found.clock, owed.clock);
+        SAME(found.code, owed.code);
+    }
+}
+
+static void logs(void)
+{
+    ACCEPTED(pillar_fresh(PAGE, PILLAR_CONTROL_MODE_1, 0, 1, 1, clock_after(0)));
+    for (uint32_t settings = 1; settings < 3 * PILLAR_LINES_PER_LOG; settings++) {
+        ACCEPTED(pillar_set_clock(PAGE, clock_after(settings)));
+        ACCEPTED(pillar_report_event(PAGE, line_owed(PILLAR_LOG_FRAUD, settings - 1).code));
+        ACCEPTED(pillar_set_limiter(PAGE, 0, 1, 1));
+        log_holds(PILLAR_LOG_STANDARD, 2 * settings);
+        log_holds(PILLAR_LOG_FRAUD, settings);
+        log_holds(PILLAR_LOG_DISCONNECT, settings);
+        log_holds(0, 0);
+        log_holds(PILLAR_LOGS + 1, 0);
+    }
+
+    /* Each log is cleared by its number, and no other number is one. */
+    for (at = 0; at < 300; at++) {
+        fresh(0);
+        SAME(at - 1 < PILLAR_LOGS ? PILLAR_ACCEPTED : PILLAR_REFUSED_LOG, pillar_clear_log(PAGE, at));
+        for (uint32_t log = 1; log <= PILLAR_LOGS; log++)
+            SAME(pillar_get_log_count(page, log), log == at);
+    }
+}
+
+/* The code of the latest line of a log. */
+static uint32_t latest(uint32_t log)
+{
+    return pillar_get_log_line(page, log, pillar_get_log_count(page, log) - UINT32_C(1)).code;
+}
+
+/* ---- Events, codes and bits ---------------------------------------------- */
+
+struct event {
+    uint32_t code;
+    uint32_t log;
+    uint32_t alarms;
+    uint32_t errors;
+};
+
+#define QUIET(name, log) {PILLAR_EVENT_##name, PILLAR_LOG_##log, 0, 0}
+#define BOTH(name) {PILLAR_EVENT_##name, PILLAR_LOG_STANDARD, PILLAR_ALARM_##name, PILLAR_ERROR_##name}
+#define FRAUD(name) {PILLAR_EVENT_##name, PILLAR_LOG_FRAUD, PILLAR_ALARM_FRAUD_ATTEMPT, 0}
+
+static const struct event events[] = {
+    QUIET(POWER_DOWN, STANDARD),
+    QUIET(POWER_UP, STANDARD),
+    QUIET(BATTERY_VOLTAGE_LOW, STANDARD),
+    BOTH(CLOCK_INVALID),
+    BOTH(REPLACE_BATTERY),
+    BOTH(PROGRAM_MEMORY_ERROR),
+    BOTH(RAM_ERROR),
+    BOTH(NV_MEMORY_ERROR),
+    BOTH(WATCHDOG_ERROR),
+    BOTH(MEASUREMENT_SYSTEM_ERROR),
+    FRAUD(TERMINAL_COVER_REMOVED),
+    FRAUD(STRONG_DC_FIELD_DETECTED),
+    FRAUD(METER_COVER_REMOVED),
+    QUIET(TERMINAL_COVER_CLOSED, FRAUD),
+    QUIET(NO_STRONG_DC_FIELD_ANYMORE, FRAUD),
+    QUIET(METER_COVER_CLOSED, FRAUD),
+    QUIET(ASSOCIATION_AUTHENTICATION_FAILURE, FRAUD),
+    QUIET(DISCONNECT_RECONNECT_FAILURE, DISCONNECT),
+};
+
+static const struct event *event_of(uint32_t code)
+{
+    for (size_t i = 0; i < COUNT_OF(events); i++)
+        if (events[i].code == code)
+            return &events[i];
+    return NULL;
+}
+
+/* Every code, and some that only their lowest byte would make one: what is named is taken, and does as its name says. */
+static void reports(void)
+{
+    static uint8_t before[PILLAR_PAGE_SIZE];
+    for (at = 0; at < 1024; at++) {
+        const struct event *event = event_of(at);
+        fresh(0);
+        memcpy(before, page, sizeof before);
+        SAME(event ? PILLAR_ACCEPTED : PILLAR_REFUSED_EVENT_CODE, pillar_report_event(PAGE, at));
+        if (!event) {
+            same(__LINE__, "whether a refusal changes the page", 0, memcmp(page, before, sizeof before) != 0);
+            continue;
+        }
+        for (uint32_t log = 1; log <= PILLAR_LOGS; log++)
+            SAME(event->log == log, pillar_get_log_count(page, log));
+        SAME(at, latest(event->log));
+        SAME(event->alarms, pillar_get_alarm_register(page));
+        SAME(event->errors, pillar_get_error_register(page));
+    }
+}
+
+struct logged {
+    uint32_t code;
+    uint32_t log;
+};
+
+static const struct logged logged[] = {
+    {PILLAR_LOGGED_CLOCK_ADJUSTED_OLD_DATE_TIME, PILLAR_LOG_STANDARD},
+    {PILLAR_LOGGED_CLOCK_ADJUSTED_NEW_DATE_TIME, PILLAR_LOG_STANDARD},
+    {PILLAR_LOGGED_ERROR_REGISTER_CLEARED, PILLAR_LOG_STANDARD},
+    {PILLAR_LOGGED_ALARM_REGISTER_CLEARED, PILLAR_LOG_STANDARD},
+    {PILLAR_LOGGED_DISCONNECTER_READY_FOR_MANUAL_RECONNECTION, PILLAR_LOG_DISCONNECT},
+    {PILLAR_LOGGED_MANUAL_DISCONNECTION, PILLAR_LOG_DISCONNECT},
+    {PILLAR_LOGGED_MANUAL_CONNECTION, PILLAR_LOG_DISCONNECT},
+    {PILLAR_LOGGED_REMOTE_DISCONNECTION, PILLAR_LOG_DISCONNECT},
+    {PILLAR_LOGGED_REMOTE_CONNECTION, PILLAR_LOG_DISCONNECT},
+    {PILLAR_LOGGED_LOCAL_DISCONNECTION, PILLAR_LOG_DISCONNECT},
+    {PILLAR_LOGGED_LIMITER_THRESHOLD_EXCEEDED, PILLAR_LOG_DISCONNECT},
+    {PILLAR_LOGGED_LIMITER_THRESHOLD_OK, PILLAR_LOG_DISCONNECT},
+    {PILLAR_LOGGED_LIMITER_THRESHOLD_CHANGED, PILLAR_LOG_DISCONNECT},
+    {PILLAR_LOGGED_LOCAL_RECONNECTION, PILLAR_LOG_DISCONNECT},
+    {PILLAR_LOGGED_EVENT_LOG_CLEARED, PILLAR_LOG_STANDARD},
+    {PILLAR_LOGGED_EVENT_LOG_CLEARED, PILLAR_LOG_FRAUD},
+    {PILLAR_LOGGED_EVENT_LOG_CLEARED, PILLAR_LOG_DISCONNECT},
+};
+
+static bool has_name(uint32_t log, uint32_t code)
+{
+    const struct event *event = event_of(code);
+    if (event && event->log == log)
+        return true;
+    for (size_t i = 0; i < COUNT_OF(logged); i++)
+        if (logged[i].log == log && logged[i].code == code)
+            return true;
+    return false;
+}
+
+/* The codes that the core lets a log hold are those that have a name. */
+static void codes(void)
+{
+    for (uint32_t log = 1; log <= PILLAR_LOGS; log++) {
+        fresh(0);
+        ACCEPTED(pillar_clear_log(PAGE, log));
+        for (at = 0; at < 256; at++) {
+            page[PILLAR_OFFSET_LINE_CODE(log, 0)] = (uint8_t)at;
+            SAME(has_name(log, at) ? PILLAR_ACCEPTED : PILLAR_REFUSED_PAGE_UNSOUND, pillar_check(PAGE));
+        }
+    }
+}
+
+/* Each call that logs by itself. */
+static void lines(void)
+{
+    fresh(PILLAR_CONTROL_MODE_2);
+    ACCEPTED(pillar_clear_alarms(PAGE, 0));
+    SAME(PILLAR_LOGGED_ALARM_REGISTER_CLEARED, latest(PILLAR_LOG_STANDARD));
+    ACCEPTED(pillar_clear_errors(PAGE, 0));
+    SAME(PILLAR_LOGGED_ERROR_REGISTER_CLEARED, latest(PILLAR_LOG_STANDARD));
+    ACCEPTED(pillar_set_clock(PAGE, 7));
+    SAME(PILLAR_LOGGED_CLOCK_ADJUSTED_OLD_DATE_TIME, pillar_get_log_line(page, PILLAR_LOG_STANDARD, 2).code);
+    SAME(PILLAR_LOGGED_CLOCK_ADJUSTED_NEW_DATE_TIME, latest(PILLAR_LOG_STANDARD));
+    ACCEPTED(pillar_remote_disconnect(PAGE));
+    SAME(PILLAR_LOGGED_REMOTE_DISCONNECTION, latest(PILLAR_LOG_DISCONNECT));
+    ACCEPTED(pillar_remote_reconnect(PAGE));
+    SAME(PILLAR_LOGGED_REMOTE_CONNECTION, latest(PILLAR_LOG_DISCONNECT));
+    ACCEPTED(pillar_manual_disconnect(PAGE));
+    SAME(PILLAR_LOGGED_MANUAL_DISCONNECTION, latest(PILLAR_LOG_DISCONNECT));
+    ACCEPTED(pillar_manual_reconnect(PAGE));
+    SAME(PILLAR_LOGGED_MANUAL_CONNECTION, latest(PILLAR_LOG_DISCONNECT));
+    ACCEPTED(pillar_set_limiter(PAGE, 0, 1, 1));
+    SAME(PILLAR_LOGGED_LIMITER_THRESHOLD_CHANGED, latest(PILLAR_LOG_DISCONNECT));
+
+    fresh(PILLAR_CONTROL_MODE_6);
+    ACCEPTED(pillar_sample(PAGE, 1));
+    SAME(PILLAR_LOGGED_LIMITER_THRESHOLD_EXCEEDED, pillar_get_log_line(page, PILLAR_LOG_DISCONNECT, 0).code);
+    SAME(PILLAR_LOGGED_LOCAL_DISCONNECTION, latest(PILLAR_LOG_DISCONNECT));
+    ACCEPTED(pillar_sample(PAGE, 0));
+    SAME(PILLAR_LOGGED_LIMITER_THRESHOLD_OK, pillar_get_log_line(page, PILLAR_LOG_DISCONNECT, 2).code);
+    SAME(PILLAR_LOGGED_LOCAL_RECONNECTION, latest(PILLAR_LOG_DISCONNECT));
+    ACCEPTED(pillar_remote_disconnect(PAGE));
+    ACCEPTED(pillar_remote_reconnect(PAGE));
+    SAME(PILLAR_LOGGED_DISCONNECTER_READY_FOR_MANUAL_RECONNECTION, latest(PILLAR_LOG_DISCONNECT));
+    for (uint32_t log = 1; log <= PILLAR_LOGS; log++) {
+        ACCEPTED(pillar_clear_log(PAGE, log));
+        SAME(PILLAR_LOGGED_EVENT_LOG_CLEARED, latest(log));
+    }
+}
+
+/* ---- The switch ---------------------------------------------------------- */
+
+struct rule {
+    uint32_t control_mode;
+    uint32_t remote_reconnect_to;
+    bool manual_disconnect;
+    bool local_reconnect;
+};
+
+static const struct rule rules[] = {
+    {PILLAR_CONTROL_MODE_1, PILLAR_CONTROL_STATE_READY_FOR_RECONNECTION, true, false},
+    {PILLAR_CONTROL_MODE_2, PILLAR_CONTROL_STATE_CONNECTED, true, false},
+    {PILLAR_CONTROL_MODE_3, PILLAR_CONTROL_STATE_READY_FOR_RECONNECTION, false, false},
+    {PILLAR_CONTROL_MODE_4, PILLAR_CONTROL_STATE_CONNECTED, false, false},
+    {PILLAR_CONTROL_MODE_5, PILLAR_CONTROL_STATE_READY_FOR_RECONNECTION, true, true},
+    {PILLAR_CONTROL_MODE_6, PILLAR_CONTROL_STATE_READY_FOR_RECONNECTION, false, true},
+};
+
+static void stands(int line, uint32_t control_state)
+{
+    same(line, "control state", control_state, pillar_get_control_state(page));
+    same(line, "supply", control_state == PILLAR_CONTROL_STATE_CONNECTED, pillar_supply_is_on(page));
+}
+
+#define STANDS(name) stands(__LINE__, PILLAR_CONTROL_STATE_##name)
+
+/* What the header says of each control mode is what the core does in it. */
+static void control_modes(void)
+{
+    for (size_t i = 0; i < COUNT_OF(rules); i++) {
+        const struct rule *rule = &rules[i];
+        fresh(rule->control_mode);
+        STANDS(CONNECTED);
+        ACCEPTED(pillar_execute_script(PAGE, PILLAR_SCRIPT_REMOTE_DISCONNECT));
+        STANDS(DISCONNECTED);
+        ACCEPTED(pillar_execute_script(PAGE, PILLAR_SCRIPT_REMOTE_RECONNECT));
+        stands(__LINE__, rule->remote_reconnect_to);
+        ACCEPTED(pillar_manual_reconnect(PAGE));
+        STANDS(CONNECTED);
+        SAME(rule->manual_disconnect ? PILLAR_ACCEPTED : PILLAR_REFUSED_MODE_RULE, pillar_manual_disconnect(PAGE));
+        if (rule->manual_disconnect)
+            STANDS(READY_FOR_RECONNECTION);
+        ACCEPTED(pillar_manual_reconnect(PAGE));
+        STANDS(CONNECTED);
+        ACCEPTED(pillar_sample(PAGE, 1));
+        STANDS(READY_FOR_RECONNECTION);
+        ACCEPTED(pillar_sample(PAGE, 0));
+        if (rule->local_reconnect)
+            STANDS(CONNECTED);
+        else
+            STANDS(READY_FOR_RECONNECTION);
+        ACCEPTED(pillar_set_control_mode(PAGE, PILLAR_CONTROL_MODE_NONE));
+        STANDS(CONNECTED);
+    }
+    fresh(PILLAR_CONTROL_MODE_NONE);
+    SAME(PILLAR_REFUSED_MODE_RULE, pillar_remote_disconnect(PAGE));
+    SAME(PILLAR_REFUSED_MODE_RULE, pillar_remote_reconnect(PAGE));
+    SAME(PILLAR_REFUSED_MODE_RULE, pillar_manual_disconnect(PAGE));
+    SAME(PILLAR_REFUSED_MODE_RULE, pillar_manual_reconnect(PAGE));
+    ACCEPTED(pillar_sample(PAGE, 1));
+    STANDS(CONNECTED);
+}
+
+/* ---- Kinds and refusals -------------------------------------------------- */
+
+static void kinds(void)
+{
+    static uint8_t record[PILLAR_RECORD_SIZE];
+    for (at = 0; at < 300; at++) {
+        bool known = at >= PILLAR_KIND_SAMPLE && at <= PILLAR_KIND_EXECUTE_SCRIPT;
+        SAME(known ? PILLAR_REFUSED_PAGE_LENGTH : PILLAR_REFUSED_KIND, pillar_call(page, 0, at, 0, 0, 0, 0, 0));
+    }
+    for (at = 0; at < 256; at++) {
+        record[0] = (uint8_t)at;
+        SAME(at == PILLAR_KIND_FRESH ? PILLAR_REFUSED_DURATION : PILLAR_REFUSED_LIST_BAD,
+             pillar_replay(record, sizeof record, PAGE));
+    }
+}
+
+/* The refusals that do not come up above; a power and a threshold keep their sign. */
+static void refusals(void)
+{
+    fresh(PILLAR_CONTROL_MODE_1);
+    SAME(PILLAR_REFUSED_LIST_EMPTY, pillar_replay(page, 0, PAGE));
+    SAME(PILLAR_REFUSED_CONTROL_MODE, pillar_set_control_mode(PAGE, 7));
+    SAME(PILLAR_REFUSED_CONTROL_MODE, pillar_set_control_mode(PAGE, 256));
+    SAME(PILLAR_REFUSED_SCRIPT, pillar_execute_script(PAGE, 0));
+    SAME(PILLAR_REFUSED_SCRIPT, pillar_execute_script(PAGE, 3));
+    SAME(PILLAR_REFUSED_THRESHOLD, pillar_set_limiter(PAGE, -1, 1, 1));
+    SAME(PILLAR_REFUSED_THRESHOLD, pillar_set_limiter(PAGE, INT32_MIN, 1, 1));
+    SAME(PILLAR_REFUSED_DURATION, pillar_set_limiter(PAGE, 0, 0, 1));
+    SAME(PILLAR_REFUSED_DURATION, pillar_set_limiter(PAGE, 0, 1, 86401));
+    ACCEPTED(pillar_sample(PAGE, INT32_MIN));
+    ACCEPTED(pillar_sample(PAGE, -1));
+    STANDS(CONNECTED);
+    ACCEPTED(pillar_sample(PAGE, INT32_MAX));
+    STANDS(READY_FOR_RECONNECTION);
+
+    page[0] ^= 1;
+    SAME(PILLAR_REFUSED_PAGE_PAIRS, pillar_check(PAGE));
+    page[0] ^= 1;
+    page[PILLAR_OFFSET_CONTROL_STATE] = 3;
+    SAME(PILLAR_REFUSED_PAGE_UNSOUND, pillar_check(PAGE));
+}
+
+int main(void)
+{
+    sizes();
+    directory();
+    fields();
+    logs();
+    reports();
+    codes();
+    lines();
+    control_modes();
+    kinds();
+    refusals();
+    if (differences != 0)
+        printf("differences: %u\n", differences);
+    return differences != 0;
+}
