@@ -2,6 +2,7 @@
 use Rattle.base.proofs.Prelude.{_≡_, refl, ap, _∙_, subst, Bool, true, false, _&&_, cond, List, [], _∷_, _++_, append-assoc, append-nil, flatMap, ℕ, zero, suc}
 use Rattle.base.proofs.Prelude.{_+_, _*_, _%_, _<_, _≤_, arith, eqb, ltb, length, take, drop, length-append, length-take, length-drop, take-append-drop}
 use Rattle.base.proofs.Prelude.{take-all, lt-ltb, le-ltb, le-leb, lt-leb, eq-eqb, ne-eqb, ltb-true, ltb-false, eqb-true, by-test}
+use Rattle.events.specs.Table.{builtIn}
 use Rattle.calls.specs.declared.Command.{Command}
 use Rattle.meter.specs.declared.Outcome.{Outcome}
 use Rattle.replay.specs.Replay.{recordLength, firstIn, recordsFrom, startOf, meterAfter}

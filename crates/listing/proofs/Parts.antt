@@ -1,6 +1,7 @@
 -- An input in two parts: its records, their lines and the line `short` are those of the parts.
 use Rattle.base.proofs.Prelude.{_≡_, refl, sym, ap, _∙_, List, [], _∷_, _++_, append-assoc, ℕ, zero, suc, _+_, _-_, _*_, _/_, _≤_, add-zero, add-suc, add-assoc}
 use Rattle.base.proofs.Prelude.{suc-mul, arith, length, length-append, List·getD-append, getD-append-add}
+use Rattle.events.specs.Table.{builtIn}
 use Rattle.codec.specs.Format.{Format, numAt, decs}
 use Rattle.codec.proofs.Stores.{decs-append}
 use Rattle.calls.specs.declared.Command.{Command}
@@ -83,14 +84,14 @@ module _ (p s : List ℕ) where
 
 -- ---- their lines
 
-no-record : (m : Meter) → meterAfter m [] ≡ m
+no-record : (m : Meter) → meterAfter builtIn m [] ≡ m
 unfolding recordAfter callsIn
 no-record m = refl
 
 pub lines-cat : (position : ℕ) (m : Meter) (rs ts : List Command)
-    → linesFrom position m (rs ++ ts) ≡ linesFrom position m rs ++ linesFrom (position + length rs) (meterAfter m rs) ts
+    → linesFrom position m (rs ++ ts) ≡ linesFrom position m rs ++ linesFrom (position + length rs) (meterAfter builtIn m rs) ts
 unfolding linesFrom
 lines-cat position m [] ts = rw (add-zero, no-record m)
 lines-cat position m (r ∷ rs) ts =
     let at : position + suc (length rs) ≡ position + 1 + length rs = omega arith in
-    rw (at, meter-next m r rs, append-assoc, lines-cat (position + 1) (nextOf m r .meter) rs ts)
+    rw (at, meter-next builtIn m r rs, append-assoc, lines-cat (position + 1) (nextOf builtIn m r .meter) rs ts)

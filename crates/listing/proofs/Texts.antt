@@ -1,6 +1,7 @@
 -- The text of a part as its functions put it: that of the first record by its tests, that of a block as lines and what a cut record adds.
 use Rattle.base.proofs.Prelude.{_≡_, sym, ap, _∙_, _&&_, List, ℕ, _+_, _%_, _<_, _≤_, arith, eqb, leb, length, length-append, sets, length-sets, lt-ltb}
 use Rattle.base.proofs.Prelude.{le-ltb, eq-eqb, ne-eqb, by-test}
+use Rattle.events.specs.Table.{builtIn}
 use Rattle.io.specs.Counts.{Counts}
 use Rattle.io.proofs.Counting.{counts}
 use Rattle.codec.proofs.Stores.{sets-then}
@@ -59,7 +60,7 @@ first-put text {xs} {ys} e room small {len} {text′} put =
 
 -- ---- a block
 
-pub block-progress : (p : Progress) (s : List ℕ) {m : Meter} → m ≡ meterAfter (p .meter) (recordsFrom 0 s)
+pub block-progress : (p : Progress) (s : List ℕ) {m : Meter} → m ≡ meterAfter builtIn (p .meter) (recordsFrom 0 s)
     → _≡_ {A = Progress} (record { meter = m; position = afterBlock p s .position; more = afterBlock p s .more }) (afterBlock p s)
 block-progress p s made = rw made
 

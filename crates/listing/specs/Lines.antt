@@ -4,6 +4,7 @@ use mathlib.Core.List.{List, [], _∷_, _++_}
 use Prim.Native.Nat.{ℕ, _+_}
 use lib.ListN.{length, drop}
 use lib.Seq.{sets}
+use Rattle.events.specs.Table.{builtIn}
 use Rattle.calls.specs.declared.Command.{Command}
 use Rattle.meter.specs.declared.Meter.{Meter}
 use Rattle.replay.specs.declared.ListingLine.{ListingLine}
@@ -26,7 +27,7 @@ shown line = drop (line .start) (line .bytes)
 unfoldable pub linesFrom : ℕ → Meter → List Command → List ℕ
 linesFrom position m [] = []
 linesFrom position m (r ∷ rs) =
-    shown (lineOf position (nextOf m r)) ++ linesFrom (position + 1) (nextOf m r .meter) rs
+    shown (lineOf position (nextOf builtIn m r)) ++ linesFrom (position + 1) (nextOf builtIn m r .meter) rs
 
 -- those of the whole records in some bytes
 abbrev pub linesIn : ℕ → Meter → List ℕ → List ℕ

@@ -5,6 +5,7 @@ use mathlib.Core.List.{List, [], _∷_, _++_}
 use Prim.Native.Nat.{ℕ, _+_, _*_, _%_, _≤_}
 use lib.Dec.{eqb, leb, ltb}
 use lib.ListN.{length}
+use Rattle.events.specs.Table.{builtIn}
 use Rattle.calls.specs.Calls.{answerNumber}
 use Rattle.meter.specs.declared.Outcome.{Outcome}
 use Rattle.replay.specs.Replay.{recordLength, firstIn, laterIn, recordsFrom, startOf, meterAfter}
@@ -71,7 +72,7 @@ blockText p s = linesIn (p .position) (p .meter) s ++ cutLine (length s)
 -- and how far the listing then is: another block follows if this one is full
 abbrev pub afterBlock : Progress → List ℕ → Progress
 afterBlock p s = record {
-  meter = meterAfter (p .meter) (recordsFrom 0 s);
+  meter = meterAfter builtIn (p .meter) (recordsFrom 0 s);
   position = p .position + blockRecords;
   more = eqb (length s) blockLength;
 }

@@ -2,6 +2,7 @@
 ghost use mathlib.Core.Path.{_≡_};
 ghost use Prim.Native.Nat.{_+_, _≤_};
 ghost use lib.ListN.{length};
+ghost use Rattle.events.specs.Table.{builtIn};
 ghost use Rattle.io.specs.Counts.{Counts};
 ghost use Rattle.replay.specs.Replay.{recordsFrom, meterAfter};
 ghost use Rattle.listing.specs.Lines.{PutBehind, PutAtStart, shown, linesIn};
@@ -73,7 +74,7 @@ fn put_cut(text: &mut [u8], len: usize, count: usize) -> usize
 // Puts the lines of a block's whole records at the start of a text, the first with this position.
 fn put_lines(text: &mut [u8], block: &[u8], position: u64, before: Meter) -> PutLines
     requires { ⌜ (7800 ≤ length (now text)) × (length (now block) ≤ 4095) × (position + 195 ≤ 18446744073709551615) ⌝ }
-    ensures { λ r. ⌜ r .meter ≡ meterAfter before (recordsFrom 0 (now (block .entry))) ⌝ }
+    ensures { λ r. ⌜ r .meter ≡ meterAfter builtIn before (recordsFrom 0 (now (block .entry))) ⌝ }
     ensures { λ r. ⌜ PutAtStart (now (text .entry)) (linesIn position before (now (block .entry))) (r .len) (now (text .exit)) ⌝ }
     ensures { λ r. ⌜ r .len ≤ 7800 ⌝ }
 {

@@ -19,25 +19,25 @@ use Rattle.replay.specs.Replay.{recordsFrom, meterAfter}
 -- the meter after n rounds of all the records
 unfoldable pub roundsFrom : ℕ → Meter → List Command → Meter
 roundsFrom zero m rs = m
-roundsFrom (suc n) m rs = roundsFrom n (meterAfter m rs) rs
+roundsFrom (suc n) m rs = roundsFrom n (meterAfter builtIn m rs) rs
 
 -- the reader's refusal, else the number of what the writer answers to the meter m
 abbrev pub answerBehind : Answer → Meter → List ℕ → ℕ
-answerBehind Accepted m page = answerNumber (writeAnswer m page)
+answerBehind Accepted m page = answerNumber (writeAnswer builtIn m page)
 answerBehind (Refused n) m page = n
 
 -- what the writer leaves; a refusal of the reader leaves every byte
 abbrev pub pageBehind : Answer → Meter → List ℕ → List ℕ
-pageBehind Accepted m page = written m page
+pageBehind Accepted m page = written builtIn m page
 pageBehind (Refused n) m page = page
 
 -- n rounds on the meter of a page: the answer
 unfoldable pub callsAnswer : List ℕ → List ℕ → ℕ → ℕ
-callsAnswer page s n = answerBehind (readOf page .answer) (roundsFrom n (readOf page .meter) (recordsFrom 0 s)) page
+callsAnswer page s n = answerBehind (readOf builtIn page .answer) (roundsFrom n (readOf builtIn page .meter) (recordsFrom 0 s)) page
 
 -- and the page
 unfoldable pub callsPage : List ℕ → List ℕ → ℕ → List ℕ
-callsPage page s n = pageBehind (readOf page .answer) (roundsFrom n (readOf page .meter) (recordsFrom 0 s)) page
+callsPage page s n = pageBehind (readOf builtIn page .answer) (roundsFrom n (readOf builtIn page .meter) (recordsFrom 0 s)) page
 
 -- ---- rounds of one function
 
@@ -57,16 +57,16 @@ inRound m i =
 
 -- the soundness test: how often the meter of a page is sound
 abbrev pub soundRounds : List ℕ → ℕ → ℕ
-soundRounds page n = passing n (λ i. soundMeter builtIn (inRound (readOf page .meter) i))
+soundRounds page n = passing n (λ i. soundMeter builtIn (inRound (readOf builtIn page .meter) i))
 
 -- the writer, each time into the bytes that it left, of whose length alone it asks: how often it accepts the meter of a page
 abbrev pub writeRounds : List ℕ → ℕ → ℕ
-writeRounds page n = passing n (λ i. isAccepted (writeAnswer (inRound (readOf page .meter) i) page))
+writeRounds page n = passing n (λ i. isAccepted (writeAnswer builtIn (inRound (readOf builtIn page .meter) i) page))
 
 -- and those bytes
 unfoldable pub writtenRounds : Meter → List ℕ → ℕ → List ℕ
 writtenRounds m page zero = page
-writtenRounds m page (suc n) = written (inRound m n) (writtenRounds m page n)
+writtenRounds m page (suc n) = written builtIn (inRound m n) (writtenRounds m page n)
 
 -- a page in round i: the last byte of its clock, if there is one, is the round
 abbrev pub pageInRound : List ℕ → ℕ → List ℕ
@@ -74,7 +74,7 @@ pageInRound page i = cond (ltb 58 (length page)) (set page 58 (i % 256)) page
 
 -- the reader: how often it accepts the page
 abbrev pub readRounds : List ℕ → ℕ → ℕ
-readRounds page n = passing n (λ i. isAccepted (readOf (pageInRound page i) .answer))
+readRounds page n = passing n (λ i. isAccepted (readOf builtIn (pageInRound page i) .answer))
 
 -- and the page after the last round
 unfoldable pub pageAfterRounds : List ℕ → ℕ → List ℕ

@@ -4,6 +4,7 @@
 // which the reader then hands back; `measure_calls` answers the refusal.
 ghost use mathlib.Core.Path.{_≡_};
 ghost use mathlib.Core.Bool.{cond};
+ghost use Rattle.events.specs.Table.{builtIn};
 ghost use Rattle.page.specs.Layout.{readOf};
 ghost use Rattle.replay.specs.Replay.{recordsFrom, meterAfter};
 ghost use Rattle.measure.specs.Rounds.{callsAnswer, callsPage, soundRounds, writeRounds, writtenRounds, pageInRound, readRounds, pageAfterRounds};
@@ -20,7 +21,7 @@ fn one_if(counts: bool) -> u32
 // The meter after the whole records of a list, each made a call by the method on the whole meter, which
 // tests it every time.
 fn run_by_method(before: Meter, records: &[u8]) -> Meter
-    ensures { λ r. ⌜ r ≡ meterAfter before (recordsFrom 0 (now (records .entry))) ⌝ }
+    ensures { λ r. ⌜ r ≡ meterAfter builtIn before (recordsFrom 0 (now (records .entry))) ⌝ }
 {
     let mut meter = before;
     let count = records.len() / replay::RECORD_LEN;
@@ -34,7 +35,7 @@ fn run_by_method(before: Meter, records: &[u8]) -> Meter
 
 // The same, or, if `by_method` is 0, the records run as a list, which tests the meter once.
 fn run(meter: Meter, records: &[u8], by_method: u32) -> Meter
-    ensures { λ r. ⌜ r ≡ meterAfter meter (recordsFrom 0 (now (records .entry))) ⌝ }
+    ensures { λ r. ⌜ r ≡ meterAfter builtIn meter (recordsFrom 0 (now (records .entry))) ⌝ }
 {
     if by_method != 0 {
         return run_by_method(meter, records);
@@ -81,7 +82,7 @@ pub extern "C" fn measure_sound(page: &[u8], rounds: u32) -> u32
 // accepted. The clock counts the rounds.
 #[no_mangle]
 pub extern "C" fn measure_write(page: &mut [u8], rounds: u32) -> u32
-    ensures { λ r. ⌜ (r ≡ writeRounds (now (page .entry)) rounds) × (now (page .exit) ≡ writtenRounds (readOf (now (page .entry)) .meter) (now (page .entry)) rounds) ⌝ }
+    ensures { λ r. ⌜ (r ≡ writeRounds (now (page .entry)) rounds) × (now (page .exit) ≡ writtenRounds (readOf builtIn (now (page .entry)) .meter) (now (page .entry)) rounds) ⌝ }
 {
     let read = reader::read_page(page);
     let mut meter = read.meter;

@@ -12,7 +12,7 @@ use borrow.Author.Tests.{leb-true, ltb-true}
 use Rattle.base.proofs.Bools.{and-left, and-right}
 use Rattle.codec.specs.Format.{AllHold}
 use Rattle.registers.specs.declared.Register.{Register}
-use Rattle.events.specs.Table.{builtIn}
+use Rattle.events.specs.Table.{EventRow}
 use Rattle.control.specs.declared.Control.{Control}
 use Rattle.control.specs.Control.{soundControl}
 use Rattle.limiter.specs.declared.Limiter.{Limiter}
@@ -78,10 +78,10 @@ module _ (g : Logs) (n : (i : ℕ) → getD (g .counts) i 0 < 256 ^ 1) (t : (i :
   logs-held : Sized g → logsArea .Holds g
   logs-held z = ((refl, (log-held 0 0, (log-held 1 32, (log-held 2 64, tt)))), z)
 
-pub meter-held : (m : Meter) → Typed m → soundMeter builtIn m ≡ true → layout .Holds m
+pub meter-held : (rows : List EventRow) (m : Meter) → Typed m → soundMeter rows m ≡ true → layout .Holds m
 unfolding layout soundMeter soundScalars
-meter-held m t e =
-    let scalars = and-left (soundControl (m .control) && soundLimiter (m .limiter)) (soundLogs builtIn (m .logs)) e in
+meter-held rows m t e =
+    let scalars = and-left (soundControl (m .control) && soundLimiter (m .limiter)) (soundLogs rows (m .logs)) e in
     let control = and-left (soundControl (m .control)) (soundLimiter (m .limiter)) scalars in
     let limiter = and-right (soundControl (m .control)) (soundLimiter (m .limiter)) scalars in
     let clock : m .clock < 256 ^ 4 = omega (arith, t .clock) in (

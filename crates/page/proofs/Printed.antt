@@ -5,11 +5,11 @@ use mathlib.Core.List.{List, [], _∷_, _++_, append-assoc, append-nil, map, map
 use Prim.Native.Nat.{ℕ, zero, suc, _-_, _*_, _≤_}
 use native.Mathlib.Omega.{arith}
 use lib.ListN.{length, replicate, length-append, length-map, length-replicate}
+use Rattle.base.specs.Tests.{every}
 use Rattle.codec.specs.BigEndian.{be}
 use Rattle.codec.specs.Format.{encs}
 use Rattle.events.specs.Line.{Line, line}
-use Rattle.events.specs.Table.{builtIn}
-use Rattle.events.proofs.Rule.{built-in-lawful}
+use Rattle.events.specs.Table.{EventRow, lawful}
 use Rattle.logs.specs.Layout.{lineClock, lineCode, padded, flat, laid}
 use Rattle.logs.proofs.Kept.{lists-length, lists-short}
 use Rattle.logs.proofs.Places.{Short, none, more}
@@ -94,13 +94,12 @@ module _ (a : Account) where
   unfolding accountPage layout
   account-written t s = rw (pairs-written, fields-written (flatMap logBytes (a .logs)), ← logs-written (a .logs) t s)
 
-  sound-written : soundState builtIn (holding a) ≡ true → accountPage a ≡ pageOf (recordOf (holding a))
-  sound-written e =
-      let logs = logs-sound builtIn (holding a) refl e in
-      account-written (lists-length builtIn (a .logs) logs) (lists-short builtIn (a .logs) logs)
+  sound-written : (rows : List EventRow) → soundState rows (holding a) ≡ true → accountPage a ≡ pageOf (recordOf (holding a))
+  sound-written rows e =
+      let logs = logs-sound rows (holding a) refl e in
+      account-written (lists-length rows (a .logs) logs) (lists-short rows (a .logs) logs)
 
 -- of the account of every list of calls from accepted settings
-pub list-written : (f : Fresh) (calls : List Call) → Settings f → AllInRange calls
-    → accountPage (account builtIn f calls) ≡ pageOf (recordOf (holding (account builtIn f calls)))
-list-written f calls t i =
-    sound-written (account builtIn f calls) (account-sound builtIn built-in-lawful f t calls i)
+pub list-written : (rows : List EventRow) → every lawful rows ≡ true → (f : Fresh) (calls : List Call) → Settings f → AllInRange calls
+    → accountPage (account rows f calls) ≡ pageOf (recordOf (holding (account rows f calls)))
+list-written rows table f calls t i = sound-written (account rows f calls) rows (account-sound rows table f t calls i)

@@ -13,8 +13,7 @@ use Rattle.base.proofs.Bits.{number-lt}
 use Rattle.base.proofs.Every.{every-first, every-rest}
 use Rattle.codec.proofs.Numbers.{pow-pos}
 use Rattle.events.specs.Line.{Line}
-use Rattle.events.specs.Table.{builtIn}
-use Rattle.events.proofs.Rule.{built-in-lawful}
+use Rattle.events.specs.Table.{EventRow, lawful}
 use Rattle.logs.specs.Layout.{lineClock as lineClock, lineCode, padded, flat, laid}
 use Rattle.logs.proofs.Places.{Short, none as noLog, more as moreLogs}
 use Rattle.logs.proofs.Kept.{lists-short}
@@ -82,21 +81,21 @@ code-fits : (x : Line) → fits x ≡ true → x .code < 256 ^ 1
 code-fits x e = omega (arith, ltb-true (x .code) 256 (and-right (leb (x .clock) 4294967295) (ltb (x .code) 256) e))
 
 -- ---- the account of a list of calls
-module _ (f : Fresh) (t : Settings f) (cs : List Call) (r : AllInRange cs) where
+module _ (rows : List EventRow) (table : every lawful rows ≡ true) (f : Fresh) (t : Settings f) (cs : List Call) (r : AllInRange cs) where
   abbrev g : AnyFresh
   g = asFresh f
 
   abbrev h : History
-  h = acceptedCalls builtIn g (reverse (map asCall cs))
+  h = acceptedCalls rows g (reverse (map asCall cs))
 
   abbrev v : State
-  v = holding (account builtIn f cs)
+  v = holding (account rows f cs)
 
-  sound : soundState builtIn v ≡ true
-  sound = account-sound builtIn built-in-lawful f t cs r
+  sound : soundState rows v ≡ true
+  sound = account-sound rows table f t cs r
 
   proper : AllProper g h
-  proper = all-proper builtIn built-in-lawful g (settings f t) (reverse (map asCall cs)) (calls-range cs r)
+  proper = all-proper rows table g (settings f t) (reverse (map asCall cs)) (calls-range cs r)
 
   lines-fit : every (every fits) (v .logs) ≡ true
   unfolding every
@@ -115,8 +114,8 @@ module _ (f : Fresh) (t : Settings f) (cs : List Call) (r : AllInRange cs) where
         alarmFilter = filter-word alarms g h proper;
         errors = bits-word errors;
         errorFilter = filter-word errors g h proper;
-        logs = record-sized builtIn v refl sound;
-        counts = counts-fit (lists-short builtIn (v .logs) (logs-sound builtIn v refl sound));
+        logs = record-sized rows v refl sound;
+        counts = counts-fit (lists-short rows (v .logs) (logs-sound rows v refl sound));
         clocks = λ i. omega (arith, fit-flat 4 lineClock clock-fits (v .logs) lines-fit i);
         codes = fit-flat 1 lineCode code-fits (v .logs) lines-fit;
       }

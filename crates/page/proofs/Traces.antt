@@ -6,7 +6,6 @@ use Prim.Native.Nat.{ℕ, _≤_}
 use native.Mathlib.Omega.{arith}
 use lib.ListN.{length, replicate}
 use borrow.Author.Tests.{le-leb}
-use Rattle.events.specs.Table.{builtIn}
 use Rattle.calls.specs.declared.Answer.the-variants.{Accepted}
 use Rattle.history.specs.OnePhase.{Account}
 use Rattle.meter.specs.declared.Meter.{Meter}
@@ -19,10 +18,10 @@ use Rattle.meter.specs.Machine.{recordAfter}
 use Rattle.meter.specs.Settings.{Settings}
 use Rattle.meter.specs.Holding.{holding}
 use Rattle.meter.proofs.Accepting.{fresh-laws}
-use Rattle.meter.proofs.Laws.{built-in}
+use Rattle.meter.specs.Laws.{LawsOf}
+use Rattle.meter.proofs.Laws.{laws as meter-laws}
 use Rattle.meter.proofs.Values.{record-sound}
 use Rattle.meter.proofs.Simulates.{account-sound}
-use Rattle.events.proofs.Rule.{built-in-lawful}
 use Rattle.page.specs.Layout.{size, pageOf, writeAnswer}
 use Rattle.page.specs.Laws.{Typed}
 use Rattle.page.specs.Examples.{worked, unused, Examples}
@@ -53,6 +52,10 @@ named v =
       logs = v .logs;
     }
 
+-- the meter's laws by the list's table
+by-table : (t : Trace) → LawsOf (t .rows)
+by-table t = meter-laws .1 (t .rows) (t .lawful-rows)
+
 module _ (t : Trace) where
   settings : Settings (t .settings)
   settings = fresh-laws .accepted-settings (t .settings) (t .settings-in-range) (t .accepted)
@@ -60,41 +63,41 @@ module _ (t : Trace) where
   -- the record is the one that holds the account
   pub last-record : lastRecord t ≡ recordOf (holding (traceAccount t))
   last-record =
-      ap (λ (m : Meter). recordAfter builtIn m (t .calls)) (fresh-laws .accepted-meter (t .settings) (t .accepted))
-      ∙ built-in .simulates (t .settings) (t .calls) settings (t .calls-in-range)
+      ap (λ (m : Meter). recordAfter (t .rows) m (t .calls)) (fresh-laws .accepted-meter (t .settings) (t .accepted))
+      ∙ by-table t .simulates (t .settings) (t .calls) settings (t .calls-in-range)
 
   -- its values are sound, and its numbers values of their types
-  values-sound : soundState builtIn (holding (traceAccount t)) ≡ true
-  values-sound = account-sound builtIn built-in-lawful (t .settings) settings (t .calls) (t .calls-in-range)
+  values-sound : soundState (t .rows) (holding (traceAccount t)) ≡ true
+  values-sound = account-sound (t .rows) (t .lawful-rows) (t .settings) settings (t .calls) (t .calls-in-range)
 
   typed : Typed (recordOf (holding (traceAccount t)))
-  typed = account-typed (t .settings) settings (t .calls) (t .calls-in-range)
+  typed = account-typed (t .rows) (t .lawful-rows) (t .settings) settings (t .calls) (t .calls-in-range)
 
-  record-is-sound : soundMeter builtIn (recordOf (holding (traceAccount t))) ≡ true
-  record-is-sound = record-sound builtIn (holding (traceAccount t)) refl values-sound
+  record-is-sound : soundMeter (t .rows) (recordOf (holding (traceAccount t))) ≡ true
+  record-is-sound = record-sound (t .rows) (holding (traceAccount t)) refl values-sound
 
   -- and its page is the one that document 01 prints of the account
   printed : accountPage (traceAccount t) ≡ pageOf (recordOf (holding (traceAccount t)))
-  printed = list-written (t .settings) (t .calls) settings (t .calls-in-range)
+  printed = list-written (t .rows) (t .lawful-rows) (t .settings) (t .calls) settings (t .calls-in-range)
 
-  last-sound : soundMeter builtIn (lastRecord t) ≡ true
+  last-sound : soundMeter (t .rows) (lastRecord t) ≡ true
   last-sound = rw last-record record-is-sound
 
   module _ (out : List ℕ) (room : size ≤ length out) where
-    page-accepted : writeAnswer (lastRecord t) out ≡ Accepted
+    page-accepted : writeAnswer (t .rows) (lastRecord t) out ≡ Accepted
     unfolding writeAnswer
     page-accepted = rw (last-sound, le-leb size (length out) room)
 
     page-held : pageAfter t out ≡ accountPage (traceAccount t)
-    page-held = laws .accepted-page (lastRecord t) out page-accepted ∙ ap pageOf last-record ∙ sym printed
+    page-held = laws .by-table (t .rows) .accepted-page (lastRecord t) out page-accepted ∙ ap pageOf last-record ∙ sym printed
 
 -- two accounts with one page are one account
 pub same-account : (s t : Trace) → accountPage (traceAccount s) ≡ accountPage (traceAccount t) → traceAccount s ≡ traceAccount t
 same-account s t e =
-    let records = laws .injective (recordOf (holding (traceAccount s))) (recordOf (holding (traceAccount t))) (typed s) (typed t) (record-is-sound s)
-    (record-is-sound t) (sym (printed s) ∙ e ∙ printed t) in
+    let records = laws .injective (s .rows) (t .rows) (recordOf (holding (traceAccount s))) (recordOf (holding (traceAccount t))) (typed s) (typed t)
+    (record-is-sound s) (record-is-sound t) (sym (printed s) ∙ e ∙ printed t) in
     let values : holding (traceAccount s) ≡ holding (traceAccount t) =
-    sym (built-in .state-of-record (holding (traceAccount s)) refl (values-sound s)) ∙ ap stateOf records ∙ built-in .state-of-record
+    sym (by-table s .state-of-record (holding (traceAccount s)) refl (values-sound s)) ∙ ap stateOf records ∙ by-table t .state-of-record
     (holding (traceAccount t)) refl (values-sound t) in
     ap named values
 

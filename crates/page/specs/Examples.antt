@@ -6,7 +6,9 @@ use Prim.Native.Nat.{ℕ, _*_}
 use native.Mathlib.Omega.{arith}
 use lib.IntN.{pos}
 use lib.ListN.{replicate}
+use Rattle.base.specs.Tests.{every}
 use Rattle.events.specs.Line.{line}
+use Rattle.events.specs.Table.{builtIn, lawful}
 use Rattle.calls.specs.declared.Answer.the-variants.{Accepted}
 use Rattle.history.specs.OnePhase.{Account}
 use Rattle.history.specs.Examples.{exampleSettings, exampleCalls}
@@ -21,6 +23,11 @@ pub bench-accepted : freshOf exampleSettings .answer ≡ Accepted
 unfolding freshAnswer
 bench-accepted = refl
 
+-- document 01's event table is lawful
+pub built-in-lawful : every lawful builtIn ≡ true
+unfolding every lawful builtIn
+built-in-lawful = refl
+
 -- its numbers are values of their types
 pub bench-in-range : SettingsInRange exampleSettings
 bench-in-range = record { threshold = (refl, refl); clock = omega arith }
@@ -29,8 +36,10 @@ bench-in-range = record { threshold = (refl, refl); clock = omega arith }
 abbrev pub worked : Trace
 worked =
     record {
+      rows = builtIn;
       settings = exampleSettings;
       calls = exampleCalls;
+      lawful-rows = built-in-lawful;
       accepted = bench-accepted;
       settings-in-range = bench-in-range;
       calls-in-range =
@@ -39,7 +48,16 @@ worked =
 
 -- its settings and no call
 abbrev pub unused : Trace
-unused = record { settings = exampleSettings; calls = []; accepted = bench-accepted; settings-in-range = bench-in-range; calls-in-range = tt }
+unused =
+    record {
+      rows = builtIn;
+      settings = exampleSettings;
+      calls = [];
+      lawful-rows = built-in-lawful;
+      accepted = bench-accepted;
+      settings-in-range = bench-in-range;
+      calls-in-range = tt;
+    }
 
 -- a log without lines: its count, and the zeros of 32 lines
 abbrev pub noLines : List ℕ

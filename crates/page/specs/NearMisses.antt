@@ -6,6 +6,7 @@ use Prim.Native.Nat.{ℕ, _+_}
 use lib.Dec.{eqb}
 use lib.ListN.{getD, set, take, replicate}
 use Rattle.base.specs.Tests.{below}
+use Rattle.events.specs.Table.{builtIn}
 use Rattle.calls.specs.Calls.{answerNumber}
 use Rattle.meter.specs.declared.Meter.{Meter}
 use Rattle.meter.specs.Examples.{exampleMeter}
@@ -15,7 +16,7 @@ use Rattle.page.specs.Examples.{workedBytes}
 
 -- what the reader answers to some bytes: 'refusal or 0'
 abbrev pub readNumber : List ℕ → ℕ
-readNumber s = answerNumber (readOf s .answer)
+readNumber s = answerNumber (readOf builtIn s .answer)
 
 -- to the worked example's page with v as its byte i
 abbrev pub readWith : ℕ → ℕ → ℕ
@@ -29,7 +30,7 @@ readCounts a b c =
 
 -- what the writer answers for a record and a buffer of n bytes
 abbrev pub writeNumber : Meter → ℕ → ℕ
-writeNumber m n = answerNumber (writeAnswer m (replicate n 0))
+writeNumber m n = answerNumber (writeAnswer builtIn m (replicate n 0))
 
 -- the worked example has mode 0, switch 1, Over 2, not Exceeded, and seven lines in log 3
 pub record NearMisses : Type 0 where

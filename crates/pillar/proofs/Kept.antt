@@ -10,40 +10,40 @@ use Rattle.calls.specs.declared.Command.{Command}
 use Rattle.calls.specs.declared.Parsed.{Parsed}
 use Rattle.calls.specs.declared.Parsed.the-variants.{Ok, NoKind}
 use Rattle.calls.specs.Calls.{answerNumber, callOf, InRange}
-use Rattle.events.specs.Table.{builtIn}
+use Rattle.events.specs.Table.{EventRow}
 use Rattle.meter.specs.declared.Outcome.{Outcome}
 use Rattle.meter.specs.Machine.{applied}
 use Rattle.page.specs.Layout.{writeAnswer, written, readOf}
 use Rattle.replay.proofs.Ranges.{ParsedInRange, call-range}
 use Rattle.pillar.specs.Interface.{outcomeOn, keptNumber, keptPage, performedNumber, performedPage}
 
-module _ (o : Outcome) (page : List ℕ) where
-  pub kept-refused : (n : ℕ) → o .answer ≡ Refused n → (n ≡ keptNumber o page) × (page ≡ keptPage o page)
+module _ (rows : List EventRow) (o : Outcome) (page : List ℕ) where
+  pub kept-refused : (n : ℕ) → o .answer ≡ Refused n → (n ≡ keptNumber rows o page) × (page ≡ keptPage rows o page)
   unfolding keptNumber keptPage
   kept-refused n e = (rw e, rw e)
 
   pub kept-written : (r : ℕ) (a : Answer) (after : List ℕ) → o .answer ≡ Accepted → r ≡ answerNumber a
-      → (a ≡ writeAnswer (o .meter) page) × (after ≡ written (o .meter) page) → (r ≡ keptNumber o page) × (after ≡ keptPage o page)
+      → (a ≡ writeAnswer rows (o .meter) page) × (after ≡ written rows (o .meter) page) → (r ≡ keptNumber rows o page) × (after ≡ keptPage rows o page)
   unfolding keptNumber keptPage
   kept-written r a after e number wrote = (rw e (number ∙ ap answerNumber (wrote .0)), rw e (wrote .1))
 
-module _ (page : List ℕ) (p : Parsed) where
-  pub call-no-kind : p ≡ NoKind → (13 ≡ performedNumber page p) × (page ≡ performedPage page p)
+module _ (rows : List EventRow) (page : List ℕ) (p : Parsed) where
+  pub call-no-kind : p ≡ NoKind → (13 ≡ performedNumber rows page p) × (page ≡ performedPage rows page p)
   call-no-kind e = (rw e, rw e)
 
-  module _ (c : Call) (names : p ≡ Ok c) (read : Outcome) (reads : read ≡ readOf page) where
-    pub call-refused : (n : ℕ) → read .answer ≡ Refused n → (n ≡ performedNumber page p) × (page ≡ performedPage page p)
+  module _ (c : Call) (names : p ≡ Ok c) (read : Outcome) (reads : read ≡ readOf rows page) where
+    pub call-refused : (n : ℕ) → read .answer ≡ Refused n → (n ≡ performedNumber rows page p) × (page ≡ performedPage rows page p)
     call-refused n e =
-        let refused : readOf page .answer ≡ Refused n = ap (λ (o : Outcome). o .answer) (sym reads) ∙ e in
+        let refused : readOf rows page .answer ≡ Refused n = ap (λ (o : Outcome). o .answer) (sym reads) ∙ e in
         (rw (names, refused), rw (names, refused))
 
-    pub call-kept : (r : ℕ) (o : Outcome) (after : List ℕ) → read .answer ≡ Accepted → o ≡ applied builtIn (read .meter) c
-        → (r ≡ keptNumber o page) × (after ≡ keptPage o page) → (r ≡ performedNumber page p) × (after ≡ performedPage page p)
+    pub call-kept : (r : ℕ) (o : Outcome) (after : List ℕ) → read .answer ≡ Accepted → o ≡ applied rows (read .meter) c
+        → (r ≡ keptNumber rows o page) × (after ≡ keptPage rows o page) → (r ≡ performedNumber rows page p) × (after ≡ performedPage rows page p)
     call-kept r o after e applies kept =
-        let accepted : readOf page .answer ≡ Accepted = ap (λ (o : Outcome). o .answer) (sym reads) ∙ e in
-        let outcome : o ≡ outcomeOn page c = applies ∙ ap (λ (o : Outcome). applied builtIn (o .meter) c) reads in (
-          rw (names, accepted) (kept .0 ∙ ap (λ (o : Outcome). keptNumber o page) outcome),
-          rw (names, accepted) (kept .1 ∙ ap (λ (o : Outcome). keptPage o page) outcome),
+        let accepted : readOf rows page .answer ≡ Accepted = ap (λ (o : Outcome). o .answer) (sym reads) ∙ e in
+        let outcome : o ≡ outcomeOn rows page c = applies ∙ ap (λ (o : Outcome). applied rows (o .meter) c) reads in (
+          rw (names, accepted) (kept .0 ∙ ap (λ (o : Outcome). keptNumber rows o page) outcome),
+          rw (names, accepted) (kept .1 ∙ ap (λ (o : Outcome). keptPage rows o page) outcome),
         )
 
 -- the numbers of a call that a command of numbers of 32 bits names are values of their types

@@ -8,9 +8,9 @@ use native.Mathlib.Omega.{arith}
 use lib.Dec.{eqb, leb}
 use lib.ListN.{length, drop-of-length-le}
 use borrow.Author.Tests.{le-leb}
-use Rattle.base.specs.Tests.{within}
+use Rattle.base.specs.Tests.{every, within}
 use Rattle.codec.specs.Lawful.{Bytes}
-use Rattle.events.specs.Table.{builtIn}
+use Rattle.events.specs.Table.{EventRow, lawful}
 use Rattle.logs.specs.Layout.{Sized}
 use Rattle.calls.specs.declared.Call.{Call}
 use Rattle.calls.specs.declared.Answer.{Answer}
@@ -41,237 +41,239 @@ use Rattle.pillar.specs.Interface.{numberOr, bytesOr, keptNumber, keptPa
 use Rattle.pillar.proofs.Kept.{kept-refused}
 use Rattle.pillar.specs.Laws.{callPages, Laws}
 
--- ---- a sound record goes to the writer
+module _ (rows : List EventRow) where
+  -- ---- a sound record goes to the writer
 
-kept-answer : (o : Outcome) (page : List ℕ) → (o .answer ≡ Accepted → soundMeter builtIn (o .meter) ≡ true)
-    → keptNumber o page ≡ numberOr (o .answer) (cond (leb size (length page)) 0 8)
-unfolding keptNumber writeAnswer
-kept-answer o page sound = go (o .answer) sound
-  where
-    fits : (b : Bool) → answerNumber (cond b Accepted (Refused 8)) ≡ cond b 0 8
-    fits true = refl
-    fits false = refl
-
-    go : (a : Answer) → (a ≡ Accepted → soundMeter builtIn (o .meter) ≡ true)
-        → numberOr a (answerNumber (cond (soundMeter builtIn (o .meter)) (cond (leb size (length page)) Accepted (Refused 8)) (Refused 12)))
-        ≡ numberOr a (cond (leb size (length page)) 0 8)
-    go Accepted s = rw (s refl) (fits (leb size (length page)))
-    go (Refused n) s = refl
-
-module _ (o : Outcome) (page : List ℕ) (whole : length page ≡ size) where
-  full : leb size (length page) ≡ true
-  full = le-leb size (length page) (omega arith)
-
-  kept-written : o .answer ≡ Accepted → soundMeter builtIn (o .meter) ≡ true → keptPage o page ≡ pageOf (o .meter)
-  unfolding keptPage written
-  kept-written e sound = rw (e, sound, full, drop-of-length-le page {i = size} (omega arith)) (append-nil (pageOf (o .meter)))
-
--- on any number but 0 every byte stays
-kept-same : (o : Outcome) (page : List ℕ) → (keptNumber o page ≡ 0 → ⊥) → keptPage o page ≡ page
-unfolding keptNumber keptPage
-kept-same o page some = go (o .answer) (writeAnswer (o .meter) page) refl some
-  where
-    go : (a w : Answer) → writeAnswer (o .meter) page ≡ w → (numberOr a (answerNumber w) ≡ 0 → ⊥)
-        → bytesOr a (written (o .meter) page) page ≡ page
-    go Accepted Accepted e some = absurd (some refl)
-    go Accepted (Refused n) e some = roundtrip.laws .refused-same (o .meter) page n e
-    go (Refused n) w e some = refl
-
-call-same : (page : List ℕ) (r : Command) → (callNumber page r ≡ 0 → ⊥) → callPage page r ≡ page
-unfolding callNumber callPage
-call-same page r some = go (callOf r) some
-  where
-    read : (o : Outcome) (a : Answer) → (numberOr a (keptNumber o page) ≡ 0 → ⊥) → bytesOr a (keptPage o page) page ≡ page
-    read o Accepted some = kept-same o page some
-    read o (Refused n) some = refl
-
-    go : (p : Parsed) → (performedNumber page p ≡ 0 → ⊥) → performedPage page p ≡ page
-    go (Ok c) some = read (outcomeOn page c) (readOf page .answer) some
-    go NoKind some = refl
-
--- ---- the kind comes first
-
-module _ (page : List ℕ) (r : Command) where
-  no-kind : within 1 15 (r .kind) ≡ false → callNumber page r ≡ 13
-  unfolding callNumber
-  no-kind out = rw (call-laws .no-kind r out)
-
-  unread : (n : ℕ) → within 1 15 (r .kind) ≡ true → readOf page .answer ≡ Refused n → callNumber page r ≡ n
-  unfolding callNumber
-  unread n in-kinds e = go _ refl
+  kept-answer : (o : Outcome) (page : List ℕ) → (o .answer ≡ Accepted → soundMeter rows (o .meter) ≡ true)
+      → keptNumber rows o page ≡ numberOr (o .answer) (cond (leb size (length page)) 0 8)
+  unfolding keptNumber writeAnswer
+  kept-answer o page sound = go (o .answer) sound
     where
-      go : (p : Parsed) → callOf r ≡ p → performedNumber page p ≡ n
-      go (Ok c) names = rw e
-      go NoKind names = absurd (call-laws .some-kind r in-kinds names)
+      fits : (b : Bool) → answerNumber (cond b Accepted (Refused 8)) ≡ cond b 0 8
+      fits true = refl
+      fits false = refl
 
--- ---- a call on a page that is read
+      go : (a : Answer) → (a ≡ Accepted → soundMeter rows (o .meter) ≡ true)
+          → numberOr a (answerNumber (cond (soundMeter rows (o .meter)) (cond (leb size (length page)) Accepted (Refused 8)) (Refused 12)))
+          ≡ numberOr a (cond (leb size (length page)) 0 8)
+      go Accepted s = rw (s refl) (fits (leb size (length page)))
+      go (Refused n) s = refl
+
+  module _ (o : Outcome) (page : List ℕ) (whole : length page ≡ size) where
+    full : leb size (length page) ≡ true
+    full = le-leb size (length page) (omega arith)
+
+    kept-written : o .answer ≡ Accepted → soundMeter rows (o .meter) ≡ true → keptPage rows o page ≡ pageOf (o .meter)
+    unfolding keptPage written
+    kept-written e sound = rw (e, sound, full, drop-of-length-le page {i = size} (omega arith)) (append-nil (pageOf (o .meter)))
+
+  -- on any number but 0 every byte stays
+  kept-same : (o : Outcome) (page : List ℕ) → (keptNumber rows o page ≡ 0 → ⊥) → keptPage rows o page ≡ page
+  unfolding keptNumber keptPage
+  kept-same o page some = go (o .answer) (writeAnswer rows (o .meter) page) refl some
+    where
+      go : (a w : Answer) → writeAnswer rows (o .meter) page ≡ w → (numberOr a (answerNumber w) ≡ 0 → ⊥)
+          → bytesOr a (written rows (o .meter) page) page ≡ page
+      go Accepted Accepted e some = absurd (some refl)
+      go Accepted (Refused n) e some = roundtrip.laws .by-table rows .refused-same (o .meter) page n e
+      go (Refused n) w e some = refl
+
+  call-same : (page : List ℕ) (r : Command) → (callNumber rows page r ≡ 0 → ⊥) → callPage rows page r ≡ page
+  unfolding callNumber callPage
+  call-same page r some = go (callOf r) some
+    where
+      read : (o : Outcome) (a : Answer) → (numberOr a (keptNumber rows o page) ≡ 0 → ⊥) → bytesOr a (keptPage rows o page) page ≡ page
+      read o Accepted some = kept-same o page some
+      read o (Refused n) some = refl
+
+      go : (p : Parsed) → (performedNumber rows page p ≡ 0 → ⊥) → performedPage rows page p ≡ page
+      go (Ok c) some = read (outcomeOn rows page c) (readOf rows page .answer) some
+      go NoKind some = refl
+
+  -- ---- the kind comes first
+
+  module _ (page : List ℕ) (r : Command) where
+    no-kind : within 1 15 (r .kind) ≡ false → callNumber rows page r ≡ 13
+    unfolding callNumber
+    no-kind out = rw (call-laws .no-kind r out)
+
+    unread : (n : ℕ) → within 1 15 (r .kind) ≡ true → readOf rows page .answer ≡ Refused n → callNumber rows page r ≡ n
+    unfolding callNumber
+    unread n in-kinds e = go _ refl
+      where
+        go : (p : Parsed) → callOf r ≡ p → performedNumber rows page p ≡ n
+        go (Ok c) names = rw e
+        go NoKind names = absurd (call-laws .some-kind r in-kinds names)
 
 -- the record of such a page, and its page
-record Read (page : List ℕ) (m : Meter) : Type 0 where
-  pub reads : readOf page ≡ acceptedOutcome m
+record Read (rows : List EventRow) (page : List ℕ) (m : Meter) : Type 0 where
+  pub reads : readOf rows page ≡ acceptedOutcome m
   pub back : pageOf m ≡ page
-  pub sound : soundMeter builtIn m ≡ true
+  pub sound : soundMeter rows m ≡ true
   pub sized : Sized (m .logs)
 
-performed-sound : (m : Meter) (p : Parsed) → AllInRange (withCall p []) → soundMeter builtIn m ≡ true → Sized (m .logs)
-    → soundMeter builtIn (performed builtIn m p .meter) ≡ true
-performed-sound m (Ok c) i sound sized = meter.built-in .kept-sound m c sized (i .0) sound
-performed-sound m NoKind i sound sized = sound
+module _ (rows : List EventRow) (table : every lawful rows ≡ true) where
+  -- ---- a call on a page that is read
 
-module _ {page : List ℕ} {m : Meter} (k : Read page m) (r : Command) (i : AllInRange (withCall (callOf r) [])) where
-  next-sound : soundMeter builtIn (nextOf m r .meter) ≡ true
-  unfolding commanded
-  next-sound = performed-sound m (callOf r) i (k .sound) (k .sized)
+  performed-sound : (m : Meter) (p : Parsed) → AllInRange (withCall p []) → soundMeter rows m ≡ true → Sized (m .logs)
+      → soundMeter rows (performed rows m p .meter) ≡ true
+  performed-sound m (Ok c) i sound sized = meter.laws .1 rows table .kept-sound m c sized (i .0) sound
+  performed-sound m NoKind i sound sized = sound
 
-  whole : length page ≡ size
-  whole = ap length (sym (k .back)) ∙ roundtrip.page-length m
+  module _ {page : List ℕ} {m : Meter} (k : Read rows page m) (r : Command) (i : AllInRange (withCall (callOf r) [])) where
+    next-sound : soundMeter rows (nextOf rows m r .meter) ≡ true
+    unfolding commanded
+    next-sound = performed-sound m (callOf r) i (k .sound) (k .sized)
 
-  -- the reader is through: what is left is the machine's outcome
-  number-read : callNumber page r ≡ keptNumber (nextOf m r) page
-  unfolding callNumber commanded keptNumber
-  number-read = go (callOf r)
+    whole : length page ≡ size
+    whole = ap length (sym (k .back)) ∙ roundtrip.page-length m
+
+    -- the reader is through: what is left is the machine's outcome
+    number-read : callNumber rows page r ≡ keptNumber rows (nextOf rows m r) page
+    unfolding callNumber commanded keptNumber
+    number-read = go (callOf r)
+      where
+        go : (p : Parsed) → performedNumber rows page p ≡ keptNumber rows (performed rows m p) page
+        go (Ok c) = ap (λ (o : Outcome). numberOr (o .answer) (keptNumber rows (applied rows (o .meter) c) page)) (k .reads)
+        go NoKind = refl
+
+    page-read : callPage rows page r ≡ keptPage rows (nextOf rows m r) page
+    unfolding callPage commanded keptPage
+    page-read = go (callOf r)
+      where
+        go : (p : Parsed) → performedPage rows page p ≡ keptPage rows (performed rows m p) page
+        go (Ok c) = ap (λ (o : Outcome). bytesOr (o .answer) (keptPage rows (applied rows (o .meter) c) page) page) (k .reads)
+        go NoKind = refl
+
+    answer-on : callNumber rows page r ≡ answerNumber (nextOf rows m r .answer)
+    answer-on =
+        number-read
+        ∙ kept-answer rows (nextOf rows m r) page (λ e. next-sound)
+        ∙ rw (full rows (nextOf rows m r) page whole) (go (nextOf rows m r .answer))
+      where
+        go : (a : Answer) → numberOr a 0 ≡ answerNumber a
+        go Accepted = refl
+        go (Refused n) = refl
+
+    page-on : callPage rows page r ≡ pageOf (nextOf rows m r .meter)
+    page-on = page-read ∙ go (nextOf rows m r .answer) refl
+      where
+        o : Outcome
+        o = nextOf rows m r
+
+        go : (a : Answer) → o .answer ≡ a → keptPage rows o page ≡ pageOf (o .meter)
+        go Accepted e = kept-written rows o page whole e next-sound
+        go (Refused n) e = sym (kept-refused rows o page n e .1) ∙ sym (k .back) ∙ ap pageOf (sym (meter.laws .1 rows table .command-refused-same m r n e))
+
+  -- an accepted page: the record is the one in its bytes
+  accepted-in : (s : List ℕ) → readOf rows s .answer ≡ Accepted → (readOf rows s .meter ≡ meterIn s) × (layout .valid s start ≡ true)
+  unfolding readOf holdsSound
+  accepted-in s e = go (eqb (length s) size) (hasPairs s) (layout .valid s start) (soundMeter rows (meterIn s)) e
     where
-      go : (p : Parsed) → performedNumber page p ≡ keptNumber (performed builtIn m p) page
-      go (Ok c) = ap (λ (o : Outcome). numberOr (o .answer) (keptNumber (applied builtIn (o .meter) c) page)) (k .reads)
-      go NoKind = refl
+      read : Bool → Bool → Bool → Bool → Outcome
+      read a b v d = cond a (cond b (cond (v && d) (acceptedOutcome (meterIn s)) (refusedOutcome 11)) (refusedOutcome 10)) (refusedOutcome 9)
 
-  page-read : callPage page r ≡ keptPage (nextOf m r) page
-  unfolding callPage commanded keptPage
-  page-read = go (callOf r)
-    where
-      go : (p : Parsed) → performedPage page p ≡ keptPage (performed builtIn m p) page
-      go (Ok c) = ap (λ (o : Outcome). bytesOr (o .answer) (keptPage (applied builtIn (o .meter) c) page) page) (k .reads)
-      go NoKind = refl
+      go : (a b v d : Bool) → read a b v d .answer ≡ Accepted → (read a b v d .meter ≡ meterIn s) × (v ≡ true)
+      go true true true true e = (refl, refl)
+      go true true true false e = let z : _≡_ {A = ℕ} 0 1 = cc in absurd (omega arith)
+      go true true false d e = let z : _≡_ {A = ℕ} 0 1 = cc in absurd (omega arith)
+      go true false v d e = let z : _≡_ {A = ℕ} 0 1 = cc in absurd (omega arith)
+      go false b v d e = let z : _≡_ {A = ℕ} 0 1 = cc in absurd (omega arith)
 
-  answer-on : callNumber page r ≡ answerNumber (nextOf m r .answer)
-  answer-on =
-      number-read
-      ∙ kept-answer (nextOf m r) page (λ e. next-sound)
-      ∙ rw (full (nextOf m r) page whole) (go (nextOf m r .answer))
-    where
-      go : (a : Answer) → numberOr a 0 ≡ answerNumber a
-      go Accepted = refl
-      go (Refused n) = refl
+  held-sized : (m : Meter) → layout .Holds m → Sized (m .logs)
+  unfolding layout
+  held-sized m h = h .0 .1 .1 .1 .1 .1 .1
 
-  page-on : callPage page r ≡ pageOf (nextOf m r .meter)
-  page-on = page-read ∙ go (nextOf m r .answer) refl
-    where
-      o : Outcome
-      o = nextOf m r
+  from-page : (page : List ℕ) → Bytes page → readOf rows page .answer ≡ Accepted → Read rows page (readOf rows page .meter)
+  from-page s bytes e =
+      let (same, valid) = accepted-in s e in
+      record {
+        reads = λ i. record { meter = readOf rows s .meter; answer = e i };
+        back = roundtrip.page-read rows s bytes e;
+        sound = roundtrip.laws .by-table rows .accepted-sound s e;
+        sized = rw same (held-sized (meterIn s) (roundtrip.layout-lawful .held-read s start bytes valid));
+      }
 
-      go : (a : Answer) → o .answer ≡ a → keptPage o page ≡ pageOf (o .meter)
-      go Accepted e = kept-written o page whole e next-sound
-      go (Refused n) e = sym (kept-refused o page n e .1) ∙ sym (k .back) ∙ ap pageOf (sym (meter.built-in .command-refused-same m r n e))
+  -- such a record as the reader hands it back
+  pub read-record : (page : List ℕ) (read : Outcome) → Bytes page → read ≡ readOf rows page → read .answer ≡ Accepted
+      → (soundMeter rows (read .meter) ≡ true) × Sized (read .meter .logs)
+  read-record page read bytes reads e =
+      let k = from-page page bytes (ap (λ (o : Outcome). o .answer) (sym reads) ∙ e) in
+      rw reads (k .sound, k .sized)
 
--- an accepted page: the record is the one in its bytes
-accepted-in : (s : List ℕ) → readOf s .answer ≡ Accepted → (readOf s .meter ≡ meterIn s) × (layout .valid s start ≡ true)
-unfolding readOf holdsSound
-accepted-in s e = go (eqb (length s) size) (hasPairs s) (layout .valid s start) (soundMeter builtIn (meterIn s)) e
-  where
-    read : Bool → Bool → Bool → Bool → Outcome
-    read a b v d = cond a (cond b (cond (v && d) (acceptedOutcome (meterIn s)) (refusedOutcome 11)) (refusedOutcome 10)) (refusedOutcome 9)
+  -- ---- calls from an accepted fresh
 
-    go : (a b v d : Bool) → read a b v d .answer ≡ Accepted → (read a b v d .meter ≡ meterIn s) × (v ≡ true)
-    go true true true true e = (refl, refl)
-    go true true true false e = let z : _≡_ {A = ℕ} 0 1 = cc in absurd (omega arith)
-    go true true false d e = let z : _≡_ {A = ℕ} 0 1 = cc in absurd (omega arith)
-    go true false v d e = let z : _≡_ {A = ℕ} 0 1 = cc in absurd (omega arith)
-    go false b v d e = let z : _≡_ {A = ℕ} 0 1 = cc in absurd (omega arith)
+  -- one call more, behind others
+  behind : (m : Meter) (calls : List Call) (c : Call) → recordAfter rows m (calls ++ (c ∷ [])) ≡ applied rows (recordAfter rows m calls) c .meter
+  unfolding recordAfter
+  behind m [] c = refl
+  behind m (d ∷ calls) c = behind (applied rows m d .meter) calls c
 
-held-sized : (m : Meter) → layout .Holds m → Sized (m .logs)
-unfolding layout
-held-sized m h = h .0 .1 .1 .1 .1 .1 .1
+  range-behind : (calls : List Call) (c : Call) → AllInRange calls → InRange c → AllInRange (calls ++ (c ∷ []))
+  range-behind [] c i k = (k, tt)
+  range-behind (d ∷ calls) c i k = (i .0, range-behind calls c (i .1) k)
 
-from-page : (page : List ℕ) → Bytes page → readOf page .answer ≡ Accepted → Read page (readOf page .meter)
-from-page s bytes e =
-    let (same, valid) = accepted-in s e in
-    record {
-      reads = λ i. record { meter = readOf s .meter; answer = e i };
-      back = roundtrip.page-read s bytes e;
-      sound = roundtrip.laws .accepted-sound s e;
-      sized = rw same (held-sized (meterIn s) (roundtrip.layout-lawful .held-read s start bytes valid));
-    }
+  first-range : (p : Parsed) (cs : List Call) → AllInRange (withCall p cs) → AllInRange (withCall p [])
+  first-range (Ok c) cs i = (i .0, tt)
+  first-range NoKind cs i = tt
 
--- such a record as the reader hands it back
-pub read-record : (page : List ℕ) (read : Outcome) → Bytes page → read ≡ readOf page → read .answer ≡ Accepted
-    → (soundMeter builtIn (read .meter) ≡ true) × Sized (read .meter .logs)
-read-record page read bytes reads e =
-    let k = from-page page bytes (ap (λ (o : Outcome). o .answer) (sym reads) ∙ e) in
-    rw reads (k .sound, k .sized)
+  module _ (f : Fresh) (t : Settings f) where
+    -- the record after some calls
+    abbrev reached : List Call → Meter
+    reached calls = recordAfter rows (recordOf (freshState f)) calls
 
--- ---- calls from an accepted fresh
+    from-record : (calls : List Call) → AllInRange calls → Read rows (pageOf (reached calls)) (reached calls)
+    from-record calls i =
+        let sound = meter.laws .1 rows table .reached-sound f calls t i in
+        let typed : Typed (reached calls) = rw (meter.laws .1 rows table .simulates f calls t i) (account-typed rows table f t calls i) in
+        record { reads = roundtrip.read-page rows (reached calls) typed sound; back = refl; sound = sound; sized = typed .logs }
 
--- one call more, behind others
-behind : (m : Meter) (calls : List Call) (c : Call) → recordAfter builtIn m (calls ++ (c ∷ [])) ≡ applied builtIn (recordAfter builtIn m calls) c .meter
-unfolding recordAfter
-behind m [] c = refl
-behind m (d ∷ calls) c = behind (applied builtIn m d .meter) calls c
+    -- the pages of records behind some calls
+    pages-from : (rs : List Command) (calls : List Call) → AllInRange (callsIn rs) → AllInRange calls
+        → callPages rows (pageOf (reached calls)) rs ≡ pageOf (meterAfter rows (reached calls) rs)
+    unfolding callPages callsIn commanded recordAfter
+    pages-from [] calls i k = refl
+    pages-from (r ∷ rs) calls i k =
+        ap (λ (page : List ℕ). callPages rows page rs) (page-on (from-record calls k) r (first-range (callOf r) (callsIn rs) i))
+        ∙ go (callOf r) i (pages-from rs)
+      where
+        go : (p : Parsed) → AllInRange (withCall p (callsIn rs))
+            → ((calls : List Call) → AllInRange (callsIn rs) → AllInRange calls → callPages rows (pageOf (reached calls)) rs ≡ pageOf (meterAfter rows (reached calls) rs))
+            → callPages rows (pageOf (performed rows (reached calls) p .meter)) rs ≡ pageOf (recordAfter rows (reached calls) (withCall p (callsIn rs)))
+        go (Ok c) i rest =
+            ap (λ (m : Meter). callPages rows (pageOf m) rs) (sym (behind (recordOf (freshState f)) calls c))
+            ∙ rest (calls ++ (c ∷ [])) (i .1) (range-behind calls c k (i .0))
+            ∙ ap (λ (m : Meter). pageOf (meterAfter rows m rs)) (behind (recordOf (freshState f)) calls c)
+        go NoKind i rest = rest calls i k
 
-range-behind : (calls : List Call) (c : Call) → AllInRange calls → InRange c → AllInRange (calls ++ (c ∷ []))
-range-behind [] c i k = (k, tt)
-range-behind (d ∷ calls) c i k = (i .0, range-behind calls c (i .1) k)
+  fresh-sound : (f : Fresh) → SettingsInRange f → freshOf f .answer ≡ Accepted → soundMeter rows (freshOf f .meter) ≡ true
+  unfolding recordAfter
+  fresh-sound f range e =
+      ap (soundMeter rows) (fresh-laws .accepted-meter f e)
+      ∙ meter.laws .1 rows table .reached-sound f [] (fresh-laws .accepted-settings f range e) tt
 
-first-range : (p : Parsed) (cs : List Call) → AllInRange (withCall p cs) → AllInRange (withCall p [])
-first-range (Ok c) cs i = (i .0, tt)
-first-range NoKind cs i = tt
-
-module _ (f : Fresh) (t : Settings f) where
-  -- the record after some calls
-  abbrev reached : List Call → Meter
-  reached calls = recordAfter builtIn (recordOf (freshState f)) calls
-
-  from-record : (calls : List Call) → AllInRange calls → Read (pageOf (reached calls)) (reached calls)
-  from-record calls i =
-      let sound = meter.built-in .reached-sound f calls t i in
-      let typed : Typed (reached calls) = rw (meter.built-in .simulates f calls t i) (account-typed f t calls i) in
-      record { reads = roundtrip.read-page (reached calls) typed sound; back = refl; sound = sound; sized = typed .logs }
-
-  -- the pages of records behind some calls
-  pages-from : (rs : List Command) (calls : List Call) → AllInRange (callsIn rs) → AllInRange calls
-      → callPages (pageOf (reached calls)) rs ≡ pageOf (meterAfter (reached calls) rs)
-  unfolding callPages callsIn commanded recordAfter
-  pages-from [] calls i k = refl
-  pages-from (r ∷ rs) calls i k =
-      ap (λ (page : List ℕ). callPages page rs) (page-on (from-record calls k) r (first-range (callOf r) (callsIn rs) i))
-      ∙ go (callOf r) i (pages-from rs)
-    where
-      go : (p : Parsed) → AllInRange (withCall p (callsIn rs))
-          → ((calls : List Call) → AllInRange (callsIn rs) → AllInRange calls → callPages (pageOf (reached calls)) rs ≡ pageOf (meterAfter (reached calls) rs))
-          → callPages (pageOf (performed builtIn (reached calls) p .meter)) rs ≡ pageOf (recordAfter builtIn (reached calls) (withCall p (callsIn rs)))
-      go (Ok c) i rest =
-          ap (λ (m : Meter). callPages (pageOf m) rs) (sym (behind (recordOf (freshState f)) calls c))
-          ∙ rest (calls ++ (c ∷ [])) (i .1) (range-behind calls c k (i .0))
-          ∙ ap (λ (m : Meter). pageOf (meterAfter m rs)) (behind (recordOf (freshState f)) calls c)
-      go NoKind i rest = rest calls i k
-
-fresh-sound : (f : Fresh) → SettingsInRange f → freshOf f .answer ≡ Accepted → soundMeter builtIn (freshOf f .meter) ≡ true
-unfolding recordAfter
-fresh-sound f range e =
-    ap (soundMeter builtIn) (fresh-laws .accepted-meter f e)
-    ∙ meter.built-in .reached-sound f [] (fresh-laws .accepted-settings f range e) tt
-
-account-page : (page : List ℕ) (f : Fresh) (rs : List Command) → length page ≡ size → freshOf f .answer ≡ Accepted → SettingsInRange f
-    → AllInRange (callsIn rs) → callPages (freshPage page f) rs ≡ accountPage (account builtIn f (callsIn rs))
-unfolding recordAfter
-account-page page f rs whole e range i =
-    let t = fresh-laws .accepted-settings f range e in
-    let first : freshPage page f ≡ pageOf (recordOf (freshState f)) =
-    kept-written (freshOf f) page whole e (fresh-sound f range e) ∙ ap pageOf (fresh-laws .accepted-meter f e) in
-    ap (λ (page : List ℕ). callPages page rs) first
-    ∙ pages-from f t rs [] i tt
-    ∙ ap pageOf (meter.built-in .simulates f (callsIn rs) t i)
-    ∙ sym (list-written f (callsIn rs) t i)
+  account-page : (page : List ℕ) (f : Fresh) (rs : List Command) → length page ≡ size → freshOf f .answer ≡ Accepted → SettingsInRange f
+      → AllInRange (callsIn rs) → callPages rows (freshPage rows page f) rs ≡ accountPage (account rows f (callsIn rs))
+  unfolding recordAfter
+  account-page page f rs whole e range i =
+      let t = fresh-laws .accepted-settings f range e in
+      let first : freshPage rows page f ≡ pageOf (recordOf (freshState f)) =
+      kept-written rows (freshOf f) page whole e (fresh-sound f range e) ∙ ap pageOf (fresh-laws .accepted-meter f e) in
+      ap (λ (page : List ℕ). callPages rows page rs) first
+      ∙ pages-from f t rs [] i tt
+      ∙ ap pageOf (meter.laws .1 rows table .simulates f (callsIn rs) t i)
+      ∙ sym (list-written rows table f (callsIn rs) t i)
 
 pub laws : Laws
 unfolding callsIn
-laws =
+laws rows table =
     record {
-      fresh-answer = λ page f range. kept-answer (freshOf f) page (fresh-sound f range);
-      call-no-kind = no-kind;
-      call-unread = unread;
-      call-answer = λ page r bytes e i. answer-on (from-page page bytes e) r i;
-      call-page = λ page r bytes e i. page-on (from-page page bytes e) r i;
-      fresh-refused = λ page f. kept-same (freshOf f) page;
-      call-refused = call-same;
-      account-page = account-page;
+      fresh-answer = λ page f range. kept-answer rows (freshOf f) page (fresh-sound rows table f range);
+      call-no-kind = no-kind rows;
+      call-unread = unread rows;
+      call-answer = λ page r bytes e i. answer-on rows table (from-page rows table page bytes e) r i;
+      call-page = λ page r bytes e i. page-on rows table (from-page rows table page bytes e) r i;
+      fresh-refused = λ page f. kept-same rows (freshOf f) page;
+      call-refused = call-same rows;
+      account-page = account-page rows table;
     }

@@ -5,9 +5,9 @@ use mathlib.Core.List.{List, [], _∷_}
 use Prim.Native.Nat.{ℕ}
 use lib.Dec.{leb}
 use lib.ListN.{length}
-use Rattle.base.specs.Tests.{within}
+use Rattle.base.specs.Tests.{every, within}
 use Rattle.codec.specs.Lawful.{Bytes}
-use Rattle.events.specs.Table.{builtIn}
+use Rattle.events.specs.Table.{EventRow, lawful}
 use Rattle.calls.specs.declared.Answer.the-variants.{Accepted, Refused}
 use Rattle.calls.specs.declared.Command.{Command}
 use Rattle.calls.specs.Calls.{answerNumber, AllInRange}
@@ -20,29 +20,33 @@ use Rattle.replay.specs.Replay.{callsIn, nextOf}
 use Rattle.pillar.specs.Interface.{numberOr, freshNumber, freshPage, callNumber, callPage}
 
 -- calls one after the other, each on the page that the one before left
-unfoldable pub callPages : List ℕ → List Command → List ℕ
-callPages page [] = page
-callPages page (r ∷ rs) = callPages (callPage page r) rs
+unfoldable pub callPages : List EventRow → List ℕ → List Command → List ℕ
+callPages rows page [] = page
+callPages rows page (r ∷ rs) = callPages rows (callPage rows page r) rs
 
 -- of `pillar_fresh`, of `pillar_call`, and of calls one after the other
-pub record Laws : Type 0 where
+pub record LawsOf (rows : List EventRow) : Type 0 where
   -- the writer refuses only a short buffer: fresh never answers 12
   pub fresh-answer : (page : List ℕ) (f : Fresh) → SettingsInRange f
-      → freshNumber page f ≡ numberOr (freshOf f .answer) (cond (leb size (length page)) 0 8)
+      → freshNumber rows page f ≡ numberOr (freshOf f .answer) (cond (leb size (length page)) 0 8)
   -- 'kind | 13 | not 1–15; the command's reading fails before the record is touched': whatever the page holds
-  pub call-no-kind : (page : List ℕ) (r : Command) → within 1 15 (r .kind) ≡ false → callNumber page r ≡ 13
+  pub call-no-kind : (page : List ℕ) (r : Command) → within 1 15 (r .kind) ≡ false → callNumber rows page r ≡ 13
   -- of a kind from 1 to 15 the reader's refusal of the page comes next
-  pub call-unread : (page : List ℕ) (r : Command) (n : ℕ) → within 1 15 (r .kind) ≡ true → readOf page .answer ≡ Refused n
-      → callNumber page r ≡ n
+  pub call-unread : (page : List ℕ) (r : Command) (n : ℕ) → within 1 15 (r .kind) ≡ true → readOf rows page .answer ≡ Refused n
+      → callNumber rows page r ≡ n
   -- a call on a page that is read answers as the machine does
-  pub call-answer : (page : List ℕ) (r : Command) → Bytes page → readOf page .answer ≡ Accepted → AllInRange (callsIn (r ∷ []))
-      → callNumber page r ≡ answerNumber (nextOf (readOf page .meter) r .answer)
+  pub call-answer : (page : List ℕ) (r : Command) → Bytes page → readOf rows page .answer ≡ Accepted → AllInRange (callsIn (r ∷ []))
+      → callNumber rows page r ≡ answerNumber (nextOf rows (readOf rows page .meter) r .answer)
   -- it leaves the page of the record that the machine hands back, accepted or refused
-  pub call-page : (page : List ℕ) (r : Command) → Bytes page → readOf page .answer ≡ Accepted → AllInRange (callsIn (r ∷ []))
-      → callPage page r ≡ pageOf (nextOf (readOf page .meter) r .meter)
+  pub call-page : (page : List ℕ) (r : Command) → Bytes page → readOf rows page .answer ≡ Accepted → AllInRange (callsIn (r ∷ []))
+      → callPage rows page r ≡ pageOf (nextOf rows (readOf rows page .meter) r .meter)
   -- on any number but 0 every byte stays
-  pub fresh-refused : (page : List ℕ) (f : Fresh) → (freshNumber page f ≡ 0 → ⊥) → freshPage page f ≡ page
-  pub call-refused : (page : List ℕ) (r : Command) → (callNumber page r ≡ 0 → ⊥) → callPage page r ≡ page
+  pub fresh-refused : (page : List ℕ) (f : Fresh) → (freshNumber rows page f ≡ 0 → ⊥) → freshPage rows page f ≡ page
+  pub call-refused : (page : List ℕ) (r : Command) → (callNumber rows page r ≡ 0 → ⊥) → callPage rows page r ≡ page
   -- calls from an accepted fresh, refused ones among them, leave the page of their history's account
   pub account-page : (page : List ℕ) (f : Fresh) (rs : List Command) → length page ≡ size → freshOf f .answer ≡ Accepted → SettingsInRange f
-      → AllInRange (callsIn rs) → callPages (freshPage page f) rs ≡ accountPage (account builtIn f (callsIn rs))
+      → AllInRange (callsIn rs) → callPages rows (freshPage rows page f) rs ≡ accountPage (account rows f (callsIn rs))
+
+-- of every event table whose rows are lawful
+abbrev pub Laws : Type 0
+Laws = (rows : List EventRow) → every lawful rows ≡ true → LawsOf rows

@@ -3,6 +3,7 @@
 // answers 0 or the number of a refusal, and a refusal leaves every byte. `include/pillar.h` declares
 // them.
 ghost use mathlib.Core.Path.{_≡_};
+ghost use Rattle.events.specs.Table.{builtIn};
 ghost use Rattle.calls.specs.Calls.{commandOf};
 ghost use Rattle.meter.specs.Settings.{settingsOf};
 ghost use Rattle.replay.specs.Replay.{replayAnswer, replayed};
@@ -30,7 +31,7 @@ fn replayed_number(replayed: Replayed) -> u32
 
 // Writes the record of an accepted outcome into the page.
 fn keep(outcome: Outcome, page: &mut [u8]) -> u32
-    ensures { λ r. ⌜ (r ≡ keptNumber outcome (now (page .entry))) × (now (page .exit) ≡ keptPage outcome (now (page .entry))) ⌝ }
+    ensures { λ r. ⌜ (r ≡ keptNumber builtIn outcome (now (page .entry))) × (now (page .exit) ≡ keptPage builtIn outcome (now (page .entry))) ⌝ }
 {
     let answer = outcome.answer;
     if let Answer::Refused(number) = answer {
@@ -50,7 +51,7 @@ pub extern "C" fn pillar_fresh(
     under: u32,
     clock: u32,
 ) -> u32
-    ensures { λ r. ⌜ (r ≡ freshNumber (now (page .entry)) (settingsOf mode threshold over under clock)) × (now (page .exit) ≡ freshPage (now (page .entry)) (settingsOf mode threshold over under clock)) ⌝ }
+    ensures { λ r. ⌜ (r ≡ freshNumber builtIn (now (page .entry)) (settingsOf mode threshold over under clock)) × (now (page .exit) ≡ freshPage builtIn (now (page .entry)) (settingsOf mode threshold over under clock)) ⌝ }
 {
     keep(Meter::fresh(mode, threshold, over, under, clock), page)
 }
@@ -67,7 +68,7 @@ pub extern "C" fn pillar_call(
     n4: u32,
     n5: u32,
 ) -> u32
-    ensures { λ r. ⌜ (r ≡ callNumber (now (page .entry)) (commandOf kind n1 n2 n3 n4 n5)) × (now (page .exit) ≡ callPage (now (page .entry)) (commandOf kind n1 n2 n3 n4 n5)) ⌝ }
+    ensures { λ r. ⌜ (r ≡ callNumber builtIn (now (page .entry)) (commandOf kind n1 n2 n3 n4 n5)) × (now (page .exit) ≡ callPage builtIn (now (page .entry)) (commandOf kind n1 n2 n3 n4 n5)) ⌝ }
     ensures laws { λ _. ⌜ Laws ⌝ }
 {
     let command = Command {
@@ -108,7 +109,7 @@ pub extern "C" fn pillar_call(
 // 102 if a record is cut short; 1, 4, 5 and 8 as `pillar_fresh`.
 #[no_mangle]
 pub extern "C" fn pillar_replay(records: &[u8], page: &mut [u8]) -> u32
-    ensures { λ r. ⌜ (r ≡ replayNumber (replayAnswer (now (records .entry)) (now (page .entry)))) × (now (page .exit) ≡ replayed (now (records .entry)) (now (page .entry))) ⌝ }
+    ensures { λ r. ⌜ (r ≡ replayNumber (replayAnswer (now (records .entry)) (now (page .entry)))) × (now (page .exit) ≡ replayed builtIn (now (records .entry)) (now (page .entry))) ⌝ }
 {
     replayed_number(replay::replay(records, page))
 }
@@ -117,7 +118,7 @@ pub extern "C" fn pillar_replay(records: &[u8], page: &mut [u8]) -> u32
 // record would not be sound.
 #[no_mangle]
 pub extern "C" fn pillar_check(page: &[u8]) -> u32
-    ensures { λ r. ⌜ r ≡ checkNumber (now (page .entry)) ⌝ }
+    ensures { λ r. ⌜ r ≡ checkNumber builtIn (now (page .entry)) ⌝ }
 {
     let read = reader::read_page(page);
     let answer = read.answer;

@@ -53,7 +53,7 @@ module _ (s : List ℕ) where
       leb-true (numAt 4 s 38) 2147483647 (sym (threshold-is s) ∙ and-right (layout .valid s start) (isThreshold (meterIn s .limiter .threshold)) e)
 
   -- bytes that do not pass hold no sound record
-  pub failed : isRecord s ≡ false → holdsSound s ≡ false
+  pub failed : isRecord s ≡ false → holdsSound builtIn s ≡ false
   unfolding holdsSound
   failed e =
       go (layout .valid s start) (isThreshold (meterIn s .limiter .threshold)) (soundMeter builtIn (meterIn s)) (threshold-sound (meterIn s)) e
@@ -64,6 +64,6 @@ module _ (s : List ℕ) where
       go false t m h e = refl
 
   -- of bytes that pass, the record decides
-  pub passed-sound : isRecord s ≡ true → holdsSound s ≡ soundMeter builtIn (meterIn s)
+  pub passed-sound : isRecord s ≡ true → holdsSound builtIn s ≡ soundMeter builtIn (meterIn s)
   unfolding holdsSound
   passed-sound e = rw (and-left (layout .valid s start) (isThreshold (meterIn s .limiter .threshold)) e)

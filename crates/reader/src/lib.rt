@@ -1,5 +1,6 @@
 // The page's reader.
 ghost use mathlib.Core.Path.{_≡_};
+ghost use Rattle.events.specs.Table.{builtIn};
 ghost use Rattle.page.specs.Layout.{readOf};
 ghost use Rattle.page.specs.Laws.{Laws, WrittenBack};
 ghost use Rattle.page.specs.NearMisses.{NearMisses};
@@ -15,8 +16,8 @@ use page::PAGE_LEN;
 // The record of a page: 9 if the length is not 558, 10 if a pair differs, 11 if the record would not
 // be sound.
 pub fn read_page(bytes: &[u8]) -> Outcome
-    ensures { λ r. ⌜ r ≡ readOf (now (bytes .entry)) ⌝ }
-    ensures written_back { λ r. ⌜ WrittenBack r (now (bytes .entry)) ⌝ }
+    ensures { λ r. ⌜ r ≡ readOf builtIn (now (bytes .entry)) ⌝ }
+    ensures written_back { λ r. ⌜ WrittenBack builtIn r (now (bytes .entry)) ⌝ }
     ensures laws { λ _. ⌜ Laws ⌝ }
     ensures near_misses { λ _. ⌜ NearMisses ⌝ }
 {

@@ -7,7 +7,9 @@ use native.Mathlib.Omega.{arith}
 use lib.Dec.{eqb, ltb}
 use lib.ListN.{length, drop}
 use lib.Seq.{take-at}
+use Rattle.base.specs.Tests.{every}
 use Rattle.codec.specs.Lawful.{Bytes}
+use Rattle.events.specs.Table.{EventRow, lawful}
 use Rattle.calls.specs.declared.Answer.{Answer}
 use Rattle.calls.specs.declared.Answer.the-variants as answer
 use Rattle.meter.specs.State.{recordOf}
@@ -39,29 +41,35 @@ module _ (s out : List ℕ) (bytes : Bytes s) (e : replayAnswer s out ≡ Writte
   unfolding replayAnswer
   accepted = started (eqb (length s) 0) (ltb (length s) recordLength) (eqb (firstIn s .kind) 0) (startOf (firstIn s) .answer) (endOf s out) e
 
-  trace : Trace
-  trace =
-      record {
-        settings = settingsIn (firstIn s);
-        calls = callsIn (laterIn s);
-        accepted = accepted;
-        settings-in-range = settings-range (firstIn s) (record-lawful .held-read s 0 bytes refl);
-        calls-in-range = in-range s bytes accepted;
-      }
+  module _ (rows : List EventRow) (table : every lawful rows ≡ true) where
+    trace : Trace
+    trace =
+        record {
+          rows = rows;
+          settings = settingsIn (firstIn s);
+          calls = callsIn (laterIn s);
+          lawful-rows = table;
+          accepted = accepted;
+          settings-in-range = settings-range (firstIn s) (record-lawful .held-read s 0 bytes refl);
+          calls-in-range = in-range s bytes accepted;
+        }
 
-  page : pageIn s out ≡ accountPage (accountIn s)
-  unfolding replayed
-  page = rw e (take-at (accountPage (accountIn s)) (drop size out) size (ap length (printed s bytes accepted) ∙ page-length (recordOf (holding (accountIn s)))))
+    page : pageIn rows s out ≡ accountPage (accountIn rows s)
+    unfolding replayed
+    page =
+        rw e
+        (take-at (accountPage (accountIn rows s)) (drop size out) size
+        (ap length (printed s bytes accepted rows table) ∙ page-length (recordOf (holding (accountIn rows s)))))
 
-pub compared : (s t out out′ : List ℕ) → Bytes s → Bytes t → replayAnswer s out ≡ Written → replayAnswer t out′ ≡ Written
-    → ComparedInputs s t out out′
+pub compared : (p q : List EventRow) → every lawful p ≡ true → every lawful q ≡ true → (s t out out′ : List ℕ) → Bytes s → Bytes t
+    → replayAnswer s out ≡ Written → replayAnswer t out′ ≡ Written → ComparedInputs p q s t out out′
 unfolding trace accountIn
-compared s t out out′ bs bt es et =
-    let first = page s out bs es in
-    let second = page t out′ bt et in
+compared p q lp lq s t out out′ bs bt es et =
+    let first = page s out bs es p lp in
+    let second = page t out′ bt et q lq in
     record {
       first-page = first;
       second-page = second;
-      same-account = λ e. traces.same-account (trace s out bs es) (trace t out′ bt et) (sym first ∙ e ∙ second);
+      same-account = λ e. traces.same-account (trace s out bs es p lp) (trace t out′ bt et q lq) (sym first ∙ e ∙ second);
       same-page = λ e. first ∙ ap accountPage e ∙ sym second;
     }

@@ -7,10 +7,11 @@ use Prim.Native.Nat.{ℕ, zero, suc, _+_, _-_, _*_, _/_, _%_, _<_, _≤_}
 use native.Mathlib.Omega.{arith}
 use lib.Dec.{eqb, leb, ltb}
 use lib.ListN.{length, drop}
+use Rattle.base.specs.Tests.{every}
 use Rattle.codec.specs.Format.{allValid}
 use Rattle.codec.specs.Lawful.{Bytes}
 use Rattle.codec.proofs.Formats.{times-lawful}
-use Rattle.events.specs.Table.{builtIn}
+use Rattle.events.specs.Table.{EventRow, lawful}
 use Rattle.logs.specs.Layout.{Sized}
 use Rattle.calls.specs.declared.Answer.{Answer}
 use Rattle.calls.specs.declared.Answer.the-variants as answer
@@ -29,7 +30,7 @@ use Rattle.meter.specs.Fresh.{freshState}
 use Rattle.meter.specs.Holding.{holding}
 use Rattle.meter.proofs.Preserved.{applied-sized}
 use Rattle.meter.proofs.Accepting.{fresh-laws}
-use Rattle.meter.proofs.Laws.{built-in}
+use Rattle.meter.proofs.Laws.{laws}
 use Rattle.page.specs.Layout.{size, pageOf, writeAnswer, written}
 use Rattle.page.specs.AccountPage.{accountPage}
 use Rattle.page.proofs.Printed.{list-written}
@@ -55,60 +56,63 @@ module _ (s : List ℕ) (i : ℕ) where
       let none : length s / 21 - i ≡ 0 = omega arith in
       rw none
 
--- the meter after a record is the one that its call, if it names one, gets it to
-pub meter-next : (m : Meter) (r : Command) (rs : List Command) → meterAfter m (r ∷ rs) ≡ meterAfter (nextOf m r .meter) rs
-unfolding recordAfter callsIn commanded
-meter-next m r rs = go (callOf r)
-  where
-    go : (p : Parsed) → recordAfter builtIn m (withCall p (callsIn rs)) ≡ recordAfter builtIn (performed builtIn m p .meter) (callsIn rs)
-    go (Ok c) = refl
-    go NoKind = refl
+-- ---- by an event table
 
--- the loop keeps its record in parts: the arrays keep their types' lengths
-performed-sized : (m : Meter) (p : Parsed) → Sized (m .logs) → Sized (performed builtIn m p .meter .logs)
-performed-sized m (Ok c) z = applied-sized builtIn m c z
-performed-sized m NoKind z = z
+module _ (rows : List EventRow) where
+  -- the meter after a record is the one that its call, if it names one, gets it to
+  pub meter-next : (m : Meter) (r : Command) (rs : List Command) → meterAfter rows m (r ∷ rs) ≡ meterAfter rows (nextOf rows m r .meter) rs
+  unfolding recordAfter callsIn commanded
+  meter-next m r rs = go (callOf r)
+    where
+      go : (p : Parsed) → recordAfter rows m (withCall p (callsIn rs)) ≡ recordAfter rows (performed rows m p .meter) (callsIn rs)
+      go (Ok c) = refl
+      go NoKind = refl
 
-commanded-sized : (m : Meter) (r : Command) → Sized (m .logs) → Sized (commanded builtIn m r .meter .logs)
-unfolding commanded
-commanded-sized m r = performed-sized m (callOf r)
+  -- the loop keeps its record in parts: the arrays keep their types' lengths
+  performed-sized : (m : Meter) (p : Parsed) → Sized (m .logs) → Sized (performed rows m p .meter .logs)
+  performed-sized m (Ok c) z = applied-sized rows m c z
+  performed-sized m NoKind z = z
 
--- a sound meter stays sound, whatever the record
-next-sound : (m : Meter) (r : Command) → recordFormat .Holds r → Sized (m .logs) → soundMeter builtIn m ≡ true
-    → soundMeter builtIn (nextOf m r .meter) ≡ true
-unfolding recordAfter callsIn
-next-sound m r h z e = ap (soundMeter builtIn) (sym (meter-next m r [])) ∙ go (callOf r) (parsed-range r h)
-  where
-    go : (p : Parsed) → ParsedInRange p → soundMeter builtIn (recordAfter builtIn m (withCall p [])) ≡ true
-    go (Ok c) i = built-in .kept-sound m c z i e
-    go NoKind i = e
+  commanded-sized : (m : Meter) (r : Command) → Sized (m .logs) → Sized (commanded rows m r .meter .logs)
+  unfolding commanded
+  commanded-sized m r = performed-sized m (callOf r)
 
--- a turn of it: the record at i is behind it, and those from i + 1 on are left
-module _ (s : List ℕ) (i : ℕ) (m : Meter) (r : Command) (o : Outcome) (h : i < length s / 21) where
-  pub after-record : r ≡ recordFormat .dec s (i * 21) → o ≡ nextOf m r
-      → meterAfter (o .meter) (recordsFrom (i + 1) s) ≡ meterAfter m (recordsFrom i s)
-  after-record read next = rw (next, read, records-next s i h) (sym (meter-next m (recordFormat .dec s (i * 21)) (recordsFrom (i + 1) s)))
+  -- a sound meter stays sound, whatever the record
+  next-sound : every lawful rows ≡ true → (m : Meter) (r : Command) → recordFormat .Holds r → Sized (m .logs) → soundMeter rows m ≡ true
+      → soundMeter rows (nextOf rows m r .meter) ≡ true
+  unfolding recordAfter callsIn
+  next-sound table m r h z e = ap (soundMeter rows) (sym (meter-next m r [])) ∙ go (callOf r) (parsed-range r h)
+    where
+      go : (p : Parsed) → ParsedInRange p → soundMeter rows (recordAfter rows m (withCall p [])) ≡ true
+      go (Ok c) i = laws .1 rows table .kept-sound m c z i e
+      go NoKind i = e
 
-  -- and a sound meter is one still
-  pub next-turn : r ≡ recordFormat .dec s (i * 21) → o ≡ nextOf m r → Bytes s → Sized (m .logs) × (soundMeter builtIn m ≡ true)
-      → (Sized (o .meter .logs) × (soundMeter builtIn (o .meter) ≡ true))
-      × (meterAfter (o .meter) (recordsFrom (i + 1) s) ≡ meterAfter m (recordsFrom i s))
-  next-turn read next bytes (z, e) =
-      let sound = next-sound m (recordFormat .dec s (i * 21)) (record-lawful .held-read s (i * 21) bytes refl) z e in
-      ((rw next (commanded-sized m r z), rw (next, read) sound), after-record read next)
+  -- a turn of it: the record at i is behind it, and those from i + 1 on are left
+  module _ (s : List ℕ) (i : ℕ) (m : Meter) (r : Command) (o : Outcome) (h : i < length s / 21) where
+    pub after-record : r ≡ recordFormat .dec s (i * 21) → o ≡ nextOf rows m r
+        → meterAfter rows (o .meter) (recordsFrom (i + 1) s) ≡ meterAfter rows m (recordsFrom i s)
+    after-record read next = rw (next, read, records-next s i h) (sym (meter-next m (recordFormat .dec s (i * 21)) (recordsFrom (i + 1) s)))
 
--- a meter that is not sound stays as it is, whatever the calls
-refused-all : (m : Meter) (calls : List Call) → soundMeter builtIn m ≡ false → recordAfter builtIn m calls ≡ m
-unfolding recordAfter applied
-refused-all m [] e = refl
-refused-all m (c ∷ calls) e = rw e (refused-all m calls e)
+    -- and a sound meter is one still
+    pub next-turn : every lawful rows ≡ true → r ≡ recordFormat .dec s (i * 21) → o ≡ nextOf rows m r → Bytes s → Sized (m .logs) × (soundMeter rows m ≡ true)
+        → (Sized (o .meter .logs) × (soundMeter rows (o .meter) ≡ true))
+        × (meterAfter rows (o .meter) (recordsFrom (i + 1) s) ≡ meterAfter rows m (recordsFrom i s))
+    next-turn table read next bytes (z, e) =
+        let sound = next-sound table m (recordFormat .dec s (i * 21)) (record-lawful .held-read s (i * 21) bytes refl) z e in
+        ((rw next (commanded-sized m r z), rw (next, read) sound), after-record read next)
 
-pub not-sound-run : (m : Meter) (rs : List Command) → soundMeter builtIn m ≡ false → m ≡ meterAfter m rs
-not-sound-run m rs e = sym (refused-all m (callsIn rs) e)
+  -- a meter that is not sound stays as it is, whatever the calls
+  refused-all : (m : Meter) (calls : List Call) → soundMeter rows m ≡ false → recordAfter rows m calls ≡ m
+  unfolding recordAfter applied
+  refused-all m [] e = refl
+  refused-all m (c ∷ calls) e = rw e (refused-all m calls e)
 
-pub last-turn : (s : List ℕ) (i : ℕ) (m : Meter) → length s / 21 ≤ i → meterAfter m (recordsFrom i s) ≡ m
-unfolding recordAfter callsIn
-last-turn s i m h = rw (records-end s i h)
+  pub not-sound-run : (m : Meter) (rs : List Command) → soundMeter rows m ≡ false → m ≡ meterAfter rows m rs
+  not-sound-run m rs e = sym (refused-all m (callsIn rs) e)
+
+  pub last-turn : (s : List ℕ) (i : ℕ) (m : Meter) → length s / 21 ≤ i → meterAfter rows m (recordsFrom i s) ≡ m
+  unfolding recordAfter callsIn
+  last-turn s i m h = rw (records-end s i h)
 
 -- any bytes are those of records
 all-valid : (n : ℕ) (s : List ℕ) (at : ℕ) → allValid recordFormat n s at ≡ true
@@ -125,48 +129,49 @@ module _ (s : List ℕ) (bytes : Bytes s) (started : startOf (firstIn s) .answer
       let n = length s / recordLength - 1 in
       calls-range (laterIn s) (times-lawful record-lawful n .held-read s recordLength bytes (all-valid n s recordLength) .1)
 
-  from-fresh : lastMeter s ≡ meterAfter (recordOf (freshState (settingsIn (firstIn s)))) (laterIn s)
-  from-fresh = ap (λ (m : Meter). meterAfter m (laterIn s)) (fresh-laws .accepted-meter (settingsIn (firstIn s)) started)
+  module _ (rows : List EventRow) (table : every lawful rows ≡ true) where
+    from-fresh : lastMeter rows s ≡ meterAfter rows (recordOf (freshState (settingsIn (firstIn s)))) (laterIn s)
+    from-fresh = ap (λ (m : Meter). meterAfter rows m (laterIn s)) (fresh-laws .accepted-meter (settingsIn (firstIn s)) started)
 
-  pub holds-account : lastMeter s ≡ recordOf (holding (accountIn s))
-  unfolding accountIn
-  holds-account = from-fresh ∙ built-in .simulates (settingsIn (firstIn s)) (callsIn (laterIn s)) settings in-range
+    pub holds-account : lastMeter rows s ≡ recordOf (holding (accountIn rows s))
+    unfolding accountIn
+    holds-account = from-fresh ∙ laws .1 rows table .simulates (settingsIn (firstIn s)) (callsIn (laterIn s)) settings in-range
 
-  -- its page is the one that document 01 prints of the account
-  pub printed : accountPage (accountIn s) ≡ pageOf (recordOf (holding (accountIn s)))
-  unfolding accountIn
-  printed = list-written (settingsIn (firstIn s)) (callsIn (laterIn s)) settings in-range
+    -- its page is the one that document 01 prints of the account
+    pub printed : accountPage (accountIn rows s) ≡ pageOf (recordOf (holding (accountIn rows s)))
+    unfolding accountIn
+    printed = list-written rows table (settingsIn (firstIn s)) (callsIn (laterIn s)) settings in-range
 
-  last-sound : soundMeter builtIn (lastMeter s) ≡ true
-  last-sound =
-      ap (soundMeter builtIn) from-fresh ∙ built-in .reached-sound (settingsIn (firstIn s)) (callsIn (laterIn s)) settings in-range
+    last-sound : soundMeter rows (lastMeter rows s) ≡ true
+    last-sound =
+        ap (soundMeter rows) from-fresh ∙ laws .1 rows table .reached-sound (settingsIn (firstIn s)) (callsIn (laterIn s)) settings in-range
 
-  -- ---- so the writer answers and writes what becomes of the input
+    -- ---- so the writer answers and writes what becomes of the input
 
-  module _ (out : List ℕ) (whole : eqb (length s % recordLength) 0 ≡ true) where
-    writer-answer : unlessRefused (writeAnswer (lastMeter s) out) Written ≡ endOf s out
-    unfolding writeAnswer
-    writer-answer = rw (last-sound, whole) (go (leb size (length out)))
-      where
-        go : (b : Bool) → unlessRefused (cond b answer.Accepted (answer.Refused 8)) Written ≡ cond b Written (Refused 8)
-        go true = refl
-        go false = refl
+    module _ (out : List ℕ) (whole : eqb (length s % recordLength) 0 ≡ true) where
+      writer-answer : unlessRefused (writeAnswer rows (lastMeter rows s) out) Written ≡ endOf s out
+      unfolding writeAnswer
+      writer-answer = rw (last-sound, whole) (go (leb size (length out)))
+        where
+          go : (b : Bool) → unlessRefused (cond b answer.Accepted (answer.Refused 8)) Written ≡ cond b Written (Refused 8)
+          go true = refl
+          go false = refl
 
-    writer-page : written (lastMeter s) out ≡ bufferAfter (endOf s out) (accountPage (accountIn s)) out
-    unfolding written
-    writer-page = rw (last-sound, whole, holds-account, ← printed) (go (leb size (length out)) (accountPage (accountIn s)))
-      where
-        go : (b : Bool) (page : List ℕ) → cond b (page ++ drop size out) out ≡ bufferAfter (cond b Written (Refused 8)) page out
-        go true page = refl
-        go false page = refl
+      writer-page : written rows (lastMeter rows s) out ≡ bufferAfter (endOf s out) (accountPage (accountIn rows s)) out
+      unfolding written
+      writer-page = rw (last-sound, whole, holds-account, ← printed) (go (leb size (length out)) (accountPage (accountIn rows s)))
+        where
+          go : (b : Bool) (page : List ℕ) → cond b (page ++ drop size out) out ≡ bufferAfter (cond b Written (Refused 8)) page out
+          go true page = refl
+          go false page = refl
 
 -- ---- what becomes of an input, as the code comes to it
 
 -- the answer gives the bytes
-pub with-bytes : (s out : List ℕ) (a : Replayed) → replayAnswer s out ≡ a
-    → (a ≡ replayAnswer s out) × (bufferAfter a (accountPage (accountIn s)) out ≡ replayed s out)
+pub with-bytes : (rows : List EventRow) (s out : List ℕ) (a : Replayed) → replayAnswer s out ≡ a
+    → (a ≡ replayAnswer s out) × (bufferAfter a (accountPage (accountIn rows s)) out ≡ replayed rows s out)
 unfolding replayed
-with-bytes s out a e = (sym e, rw e)
+with-bytes rows s out a e = (sym e, rw e)
 
 -- the input begins with a whole record of kind 0, whose outcome is o
 pub record Begun (s out : List ℕ) (o : Outcome) : Type 0 where
@@ -179,14 +184,14 @@ unfolding replayAnswer
 begun s out o some whole fresh e = record { start = e; answer = rw (some, whole, fresh, e) }
 
 -- fresh is accepted, and the writer was given the meter m after whole records
-module _ {s out : List ℕ} {o : Outcome} (b : Begun s out o) (bytes : Bytes s) (accepted : o .answer ≡ answer.Accepted)
-    (whole : eqb (length s % recordLength) 0 ≡ true) where
-  pub ended : (m : Meter) (a : Answer) (page : List ℕ) → m ≡ meterAfter (o .meter) (laterIn s) → (a ≡ writeAnswer m out) × (page ≡ written m out)
-      → (unlessRefused a Written ≡ replayAnswer s out) × (page ≡ replayed s out)
+module _ (rows : List EventRow) (table : every lawful rows ≡ true) {s out : List ℕ} {o : Outcome} (b : Begun s out o)
+    (bytes : Bytes s) (accepted : o .answer ≡ answer.Accepted) (whole : eqb (length s % recordLength) 0 ≡ true) where
+  pub ended : (m : Meter) (a : Answer) (page : List ℕ) → m ≡ meterAfter rows (o .meter) (laterIn s) → (a ≡ writeAnswer rows m out) × (page ≡ written rows m out)
+      → (unlessRefused a Written ≡ replayAnswer s out) × (page ≡ replayed rows s out)
   ended m a page run wrote =
       let started : startOf (firstIn s) .answer ≡ answer.Accepted = sym (ap (λ (o : Outcome). o .answer) (b .start)) ∙ accepted in
-      let last : m ≡ lastMeter s = run ∙ ap (λ (o : Outcome). meterAfter (o .meter) (laterIn s)) (b .start) in
-      let end = with-bytes s out (endOf s out) (b .answer ∙ rw accepted) in (
-        rw (wrote .0, last) (writer-answer s bytes started out whole) ∙ end .0,
-        wrote .1 ∙ rw last (writer-page s bytes started out whole) ∙ end .1,
+      let last : m ≡ lastMeter rows s = run ∙ ap (λ (o : Outcome). meterAfter rows (o .meter) (laterIn s)) (b .start) in
+      let end = with-bytes rows s out (endOf s out) (b .answer ∙ rw accepted) in (
+        rw (wrote .0, last) (writer-answer s bytes started rows table out whole) ∙ end .0,
+        wrote .1 ∙ rw last (writer-page s bytes started rows table out whole) ∙ end .1,
       )

@@ -1,10 +1,13 @@
 -- What holds of the input's records, of its run and of the listing's lines: what a reader wants beside the definitions.
 use mathlib.Core.Path.{_≡_}
+use mathlib.Core.Bool.{true}
 use mathlib.Core.List.{List, [], _∷_, _++_}
 use Prim.Native.Nat.{ℕ, _/_, _%_, _^_, _<_, _≤_}
 use lib.ListN.{length, take, drop}
+use Rattle.base.specs.Tests.{every}
 use Rattle.codec.specs.Format.{encs, AllHold}
 use Rattle.codec.specs.Lawful.{Bytes, Lawful}
+use Rattle.events.specs.Table.{EventRow, lawful}
 use Rattle.calls.specs.declared.Answer.the-variants.{Accepted}
 use Rattle.calls.specs.declared.Command.{Command}
 use Rattle.meter.specs.State.{recordOf}
@@ -16,15 +19,15 @@ use Rattle.replay.specs.Replay.{firstIn, laterIn, startOf, lastMeter, ac
 use Rattle.replay.specs.Listing.{digitByte, decimal, valueBehind, lineBytes, atEnd}
 
 -- the page that `replay` leaves in the buffer
-abbrev pub pageIn : List ℕ → List ℕ → List ℕ
-pageIn s out = take pageLength (replayed s out)
+abbrev pub pageIn : List EventRow → List ℕ → List ℕ → List ℕ
+pageIn rows s out = take pageLength (replayed rows s out)
 
--- demand 3 of two inputs that `replay` took, each with its buffer
-pub record ComparedInputs (s t out out′ : List ℕ) : Type 0 where
-  pub first-page : pageIn s out ≡ accountPage (accountIn s)
-  pub second-page : pageIn t out′ ≡ accountPage (accountIn t)
-  pub same-account : pageIn s out ≡ pageIn t out′ → accountIn s ≡ accountIn t
-  pub same-page : accountIn s ≡ accountIn t → pageIn s out ≡ pageIn t out′
+-- demand 3 of two inputs that `replay` took, each with its event table and its buffer
+pub record ComparedInputs (p q : List EventRow) (s t out out′ : List ℕ) : Type 0 where
+  pub first-page : pageIn p s out ≡ accountPage (accountIn p s)
+  pub second-page : pageIn q t out′ ≡ accountPage (accountIn q t)
+  pub same-account : pageIn p s out ≡ pageIn q t out′ → accountIn p s ≡ accountIn q t
+  pub same-page : accountIn p s ≡ accountIn q t → pageIn p s out ≡ pageIn q t out′
 
 -- of the input's records, of its run, and of the listing's digits and lines
 pub record Laws : Type 0 where
@@ -35,10 +38,11 @@ pub record Laws : Type 0 where
   pub first-read : (r : Command) (rs : List Command) → AllHold recordFormat (r ∷ rs) → firstIn (encs recordFormat (r ∷ rs)) ≡ r
   pub later-read : (r : Command) (rs : List Command) → AllHold recordFormat (r ∷ rs) → laterIn (encs recordFormat (r ∷ rs)) ≡ rs
   -- the meter that the machine reaches record by record, from an accepted fresh, holds the account of the history
-  pub account-held : (s : List ℕ) → Bytes s → startOf (firstIn s) .answer ≡ Accepted → lastMeter s ≡ recordOf (holding (accountIn s))
+  pub account-held : (rows : List EventRow) → every lawful rows ≡ true → (s : List ℕ) → Bytes s → startOf (firstIn s) .answer ≡ Accepted
+      → lastMeter rows s ≡ recordOf (holding (accountIn rows s))
   -- 'the page after the one equals the page after the other exactly when the accounts of the two histories are equal', from bytes to page
-  pub compared : (s t out out′ : List ℕ) → Bytes s → Bytes t → replayAnswer s out ≡ Written → replayAnswer t out′ ≡ Written
-      → ComparedInputs s t out out′
+  pub compared : (p q : List EventRow) → every lawful p ≡ true → every lawful q ≡ true → (s t out out′ : List ℕ) → Bytes s → Bytes t
+      → replayAnswer s out ≡ Written → replayAnswer t out′ ≡ Written → ComparedInputs p q s t out out′
   -- the digits of a number: itself below ten; else those of its quotient by ten, and the remainder's behind them
   pub one-digit : (n : ℕ) → n < 10 → decimal n ≡ digitByte n ∷ []
   pub more-digits : (n : ℕ) → 10 ≤ n → decimal n ≡ decimal (n / 10) ++ (digitByte (n % 10) ∷ [])

@@ -5,7 +5,7 @@ use Prim.Native.Nat.{ℕ, _-_, _*_, _/_, _%_}
 use lib.Dec.{eqb, leb, ltb}
 use lib.ListN.{length, drop}
 use Rattle.codec.specs.Format.{decs}
-use Rattle.events.specs.Table.{builtIn}
+use Rattle.events.specs.Table.{EventRow}
 use Rattle.calls.specs.declared.Call.{Call}
 use Rattle.calls.specs.declared.Answer.{Answer}
 use Rattle.calls.specs.declared.Answer.the-variants as answer
@@ -56,29 +56,29 @@ unfoldable pub callsIn : List Command → List Call
 callsIn [] = []
 callsIn (r ∷ rs) = withCall (callOf r) (callsIn rs)
 
--- ---- the records, one by one
+-- ---- the records, one by one, by an event table
 
 -- 'The first has kind 0 and is fresh': what it makes, if it has kind 0
 abbrev pub startOf : Command → Outcome
 startOf r = freshOf (settingsIn r)
 
 -- 'each next one the record that the call before handed back': a later record on a meter
-abbrev pub nextOf : Meter → Command → Outcome
-nextOf m r = commanded builtIn m r
+abbrev pub nextOf : List EventRow → Meter → Command → Outcome
+nextOf rows m r = commanded rows m r
 
 -- the meter after some records: the machine's, after the calls that they name
-abbrev pub meterAfter : Meter → List Command → Meter
-meterAfter m rs = recordAfter builtIn m (callsIn rs)
+abbrev pub meterAfter : List EventRow → Meter → List Command → Meter
+meterAfter rows m rs = recordAfter rows m (callsIn rs)
 
 -- the meter after the last record, by the machine
-abbrev pub lastMeter : List ℕ → Meter
-lastMeter s = meterAfter (startOf (firstIn s) .meter) (laterIn s)
+abbrev pub lastMeter : List EventRow → List ℕ → Meter
+lastMeter rows s = meterAfter rows (startOf (firstIn s) .meter) (laterIn s)
 
 -- ---- the whole input
 
 -- 'Drawn from the list and its fresh settings without running the machine': the account of the input's history
-unfoldable pub accountIn : List ℕ → Account
-accountIn s = account builtIn (settingsIn (firstIn s)) (callsIn (laterIn s))
+unfoldable pub accountIn : List EventRow → List ℕ → Account
+accountIn rows s = account rows (settingsIn (firstIn s)) (callsIn (laterIn s))
 
 -- a refusal, or else what follows
 abbrev pub unlessRefused : Answer → Replayed → Replayed
@@ -105,5 +105,5 @@ bufferAfter Short page out = out
 bufferAfter (Refused n) page out = out
 
 -- 'Each page holds its own account, byte for byte by the layout'
-unfoldable pub replayed : List ℕ → List ℕ → List ℕ
-replayed s out = bufferAfter (replayAnswer s out) (accountPage (accountIn s)) out
+unfoldable pub replayed : List EventRow → List ℕ → List ℕ → List ℕ
+replayed rows s out = bufferAfter (replayAnswer s out) (accountPage (accountIn rows s)) out

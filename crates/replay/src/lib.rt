@@ -1,6 +1,7 @@
 // The bench program's work, but for reading and writing: the records of its input, the meter that they
 // drive, the lines of its listing; and a whole input at once, from its bytes to the page.
 ghost use mathlib.Core.Path.{_≡_};
+ghost use Rattle.events.specs.Table.{builtIn};
 ghost use Rattle.replay.specs.Replay.{replayAnswer, replayed};
 ghost use Rattle.replay.specs.Laws.{Laws};
 ghost use Rattle.replay.specs.Examples.{Examples};
@@ -46,7 +47,7 @@ pub enum Replayed {
 // Runs a whole input and writes the page of its history into the first 558 bytes of `page`. Every
 // byte of `page` stays where the answer is not Written.
 pub fn replay(records: &[u8], page: &mut [u8]) -> Replayed
-    ensures { λ r. ⌜ (r ≡ replayAnswer (now (records .entry)) (now (page .entry))) × (now (page .exit) ≡ replayed (now (records .entry)) (now (page .entry))) ⌝ }
+    ensures { λ r. ⌜ (r ≡ replayAnswer (now (records .entry)) (now (page .entry))) × (now (page .exit) ≡ replayed builtIn (now (records .entry)) (now (page .entry))) ⌝ }
     ensures laws { λ _. ⌜ Laws ⌝ }
     ensures account { λ _. ⌜ AccountLaws ⌝ }
     ensures histories { λ _. ⌜ WorkedExample × Histories ⌝ }

@@ -1,6 +1,7 @@
 // The records of an input on a meter: the first makes it, each later one gets the meter that the one
 // before handed back.
 ghost use mathlib.Core.Path.{_≡_};
+ghost use Rattle.events.specs.Table.{builtIn};
 ghost use Rattle.replay.specs.Replay.{recordsFrom, startOf, nextOf, meterAfter};
 use crate::RECORD_LEN;
 use crate::input;
@@ -23,7 +24,7 @@ pub fn start(first: Command) -> Outcome
 
 // A later record: a call, or a kind that is refused.
 pub fn next(meter: Meter, later: Command) -> Outcome
-    ensures { λ r. ⌜ r ≡ nextOf meter later ⌝ }
+    ensures { λ r. ⌜ r ≡ nextOf builtIn meter later ⌝ }
 {
     meter.command(later)
 }
@@ -32,7 +33,7 @@ pub fn next(meter: Meter, later: Command) -> Outcome
 // is not sound every call refuses, and a sound one every call keeps sound. It is kept in parts while
 // they run: a call that takes it by value copies it.
 pub fn run_from(before: Meter, records: &[u8], first: usize) -> Meter
-    ensures { λ r. ⌜ r ≡ meterAfter before (recordsFrom first (now (records .entry))) ⌝ }
+    ensures { λ r. ⌜ r ≡ meterAfter builtIn before (recordsFrom first (now (records .entry))) ⌝ }
 {
     if !before.sound() {
         return before;

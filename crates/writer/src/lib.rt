@@ -20,8 +20,8 @@ use steps::Scalars;
 // Writes the record's page into the first 558 bytes of the buffer. Refuses a record that is not
 // sound with 12, then a buffer that is too short with 8, and then writes nothing.
 pub fn write_page(m: Meter, out: &mut [u8]) -> Answer
-    ensures { λ r. ⌜ (r ≡ writeAnswer m (now (out .entry))) × (now (out .exit) ≡ written m (now (out .entry))) ⌝ }
-    ensures restored { λ r. ⌜ (r ≡ Answer.Accepted → readOf (take size (now (out .exit))) ≡ acceptedOutcome m) ⌝ }
+    ensures { λ r. ⌜ (r ≡ writeAnswer builtIn m (now (out .entry))) × (now (out .exit) ≡ written builtIn m (now (out .entry))) ⌝ }
+    ensures restored { λ r. ⌜ (r ≡ Answer.Accepted → readOf builtIn (take size (now (out .exit))) ≡ acceptedOutcome m) ⌝ }
     ensures demand3 { λ _. ⌜ Demand3 ⌝ }
     ensures examples { λ _. ⌜ Examples ⌝ }
 {
@@ -42,7 +42,7 @@ pub fn write_sound<'a>(
     codes: &'a [u8; 96],
     out: &mut [u8],
 ) -> Answer
-    ensures { λ r. ⌜ (let m = withLogs scalars (now (counts .entry)) (now (clocks .entry)) (now (codes .entry)) in soundMeter builtIn m ≡ true → (r ≡ writeAnswer m (now (out .entry))) × (now (out .exit) ≡ written m (now (out .entry)))) ⌝ }
+    ensures { λ r. ⌜ (let m = withLogs scalars (now (counts .entry)) (now (clocks .entry)) (now (codes .entry)) in soundMeter builtIn m ≡ true → (r ≡ writeAnswer builtIn m (now (out .entry))) × (now (out .exit) ≡ written builtIn m (now (out .entry)))) ⌝ }
 {
     if out.len() < PAGE_LEN {
         return Answer::Refused(8);

@@ -5,6 +5,7 @@ use native.Mathlib.Omega.{arith}
 use lib.Dec.{eqb}
 use lib.ListN.{length}
 use borrow.Author.Needs.{needs}
+use Rattle.events.specs.Table.{builtIn}
 use Rattle.meter.specs.declared.Outcome.{Outcome}
 use Rattle.page.specs.Layout.{readOf}
 use Rattle.measure.specs.Rounds.{passing, isAccepted, pageInRound, pageAfterRounds}
@@ -15,7 +16,7 @@ use Rattle.measure.proofs.measure_read.Tie as tie
 abbrev Inv-loop : tie.InvT-loop
 Inv-loop page₀ rounds accepted₀ round₀ page accepted round =
     (round ≤ rounds)
-    × (accepted ≡ passing round (λ i. isAccepted (readOf (pageInRound page₀ i) .answer)))
+    × (accepted ≡ passing round (λ i. isAccepted (readOf builtIn (pageInRound page₀ i) .answer)))
     × (page ≡ pageAfterRounds page₀ round)
     × (length page ≡ length page₀)
 
@@ -40,8 +41,8 @@ loop-again c =
     let page = turn .before .before .args .page .now in
     let counted : counts .count-round .last .0 ≡ pageInRound page (l .round) = counts .count-round .ensures ∙ rw (l .inv .2) (next-page page (l .round)) in (
       search needs,
-      next-passing (l .round) (l .accepted) (c .one-if .result) (λ i. isAccepted (readOf (pageInRound page i) .answer)) _ (l .inv .1) (c .one-if .ensures)
-          (ap (λ (k : ℕ). eqb k 0) (c .before .number .ensures) ∙ ap (λ (o : Outcome). isAccepted (o .answer)) (reads .read-page .ensures .0 ∙ ap readOf counted)),
+      next-passing (l .round) (l .accepted) (c .one-if .result) (λ i. isAccepted (readOf builtIn (pageInRound page i) .answer)) _ (l .inv .1) (c .one-if .ensures)
+          (ap (λ (k : ℕ). eqb k 0) (c .before .number .ensures) ∙ ap (λ (o : Outcome). isAccepted (o .answer)) (reads .read-page .ensures .0 ∙ ap (readOf builtIn) counted)),
       counted ∙ after-round page (l .round),
       search needs,
     )

@@ -5,6 +5,7 @@ use mathlib.Core.Bool.{true}
 use native.Mathlib.Omega.{arith}
 use borrow.Author.Needs.{needs}
 use Rattle.events.specs.Table.{builtIn}
+use Rattle.events.proofs.Rule.{built-in-lawful}
 use Rattle.logs.specs.Layout.{Sized}
 use Rattle.calls.specs.declared.Call.{Call}
 use Rattle.calls.specs.Calls.{InRange}
@@ -48,7 +49,7 @@ left c =
 accepted : (c : tie.After-apply-sound) → (soundMeter builtIn (given c) ≡ true) × Sized (given c .logs)
 accepted c =
     let known = reading (read c) .before .before .before in
-    read-record _ _ (λ i. omega (arith, known .slice-known .given i)) (read c .read-page .ensures .0) (taken c .enum-told2 .given .1)
+    read-record builtIn built-in-lawful _ _ (λ i. omega (arith, known .slice-known .given i)) (read c .read-page .ensures .0) (taken c .enum-told2 .given .1)
 
 in-range : (c : tie.After-apply-sound) → InRange (call c)
 in-range c =
@@ -67,7 +68,7 @@ left-sound c =
 
 returns : tie.Need-returns
 unfolding callNumber callPage
-returns c = (rw (← c .before .before .read-kind .ensures .0) (call-no-kind _ _ (c .enum-told .given .1)), laws)
+returns c = (rw (← c .before .before .read-kind .ensures .0) (call-no-kind builtIn _ _ (c .enum-told .given .1)), laws)
 
 returns-2 : tie.Need-returns-2
 unfolding callNumber callPage
@@ -75,7 +76,7 @@ returns-2 c =
     let read = c .before .before .before in
     let parsed = reading read in (
       rw (← parsed .before .before .read-kind .ensures .0)
-          (call-refused _ _ _ (parsed .parsed .given .1) _ (read .read-page .ensures .0) _ (c .before .answer .given .1)),
+          (call-refused builtIn _ _ _ (parsed .parsed .given .1) _ (read .read-page .ensures .0) _ (c .before .answer .given .1)),
       laws,
     )
 
@@ -85,8 +86,8 @@ returns-3 c =
     let a = c .before .before .before in
     let parsed = reading (read a) in (
       rw (← parsed .before .before .read-kind .ensures .0)
-          (call-kept _ _ _ (parsed .parsed .given .1) _ (read a .read-page .ensures .0) _ _ _
-          (taken a .enum-told2 .given .1) (applies a) (kept-refused (left a) _ _ (c .before .refusal .given .1))),
+          (call-kept builtIn _ _ _ (parsed .parsed .given .1) _ (read a .read-page .ensures .0) _ _ _
+          (taken a .enum-told2 .given .1) (applies a) (kept-refused builtIn (left a) _ _ (c .before .refusal .given .1))),
       laws,
     )
 
@@ -98,9 +99,9 @@ returns-4 c =
     let a = told .before .before in
     let parsed = reading (read a) in (
       rw (← parsed .before .before .read-kind .ensures .0)
-          (call-kept _ _ _ (parsed .parsed .given .1) _ (read a .read-page .ensures .0) _ _ _
+          (call-kept builtIn _ _ _ (parsed .parsed .given .1) _ (read a .read-page .ensures .0) _ _ _
           (taken a .enum-told2 .given .1) (applies a)
-          (kept-written (left a) _ _ _ _ (told .enum-told3 .given .1) (c .number .ensures) (wrote .write-sound .ensures (left-sound a)))),
+          (kept-written builtIn (left a) _ _ _ _ (told .enum-told3 .given .1) (c .number .ensures) (wrote .write-sound .ensures (left-sound a)))),
       laws,
     )
 

@@ -24,8 +24,8 @@ all-bytes : (c : tie.After-shared-slice-known) → Bytes (c .before .args .bytes
 all-bytes c i = omega (arith, c .shared-slice-known .given i)
 
 -- what the reader promises, by what it hands back
-promises : (s : List ℕ) (o : Outcome) → Bytes s → o ≡ readOf s → (o ≡ readOf s) × (WrittenBack o s × (Laws × NearMisses))
-promises s o b e = (e, (written-back s o b e, (laws, near-misses)))
+promises : (s : List ℕ) (o : Outcome) → Bytes s → o ≡ readOf builtIn s → (o ≡ readOf builtIn s) × (WrittenBack builtIn o s × (Laws × NearMisses))
+promises s o b e = (e, (written-back builtIn s o b e, (laws, near-misses)))
 
 returns : tie.Need-returns
 unfolding readOf

@@ -57,9 +57,9 @@ typed c =
     }
 
 -- what the writer promises, by what it answers and leaves
-writer-promises : (m : Meter) (out : List ℕ) (a : Answer) (left : List ℕ) → Typed m → (a ≡ writeAnswer m out) × (left ≡ written m out)
-    → ((a ≡ writeAnswer m out) × (left ≡ written m out)) × ((a ≡ Accepted → readOf (take size left) ≡ acceptedOutcome m) × (Demand3 × Examples))
-writer-promises m out a left t e = (e, (λ h. rw (e .1) (laws .read-written m out t (sym (e .0) ∙ h)), (demand-3, examples)))
+writer-promises : (m : Meter) (out : List ℕ) (a : Answer) (left : List ℕ) → Typed m → (a ≡ writeAnswer builtIn m out) × (left ≡ written builtIn m out)
+    → ((a ≡ writeAnswer builtIn m out) × (left ≡ written builtIn m out)) × ((a ≡ Accepted → readOf builtIn (take size left) ≡ acceptedOutcome m) × (Demand3 × Examples))
+writer-promises m out a left t e = (e, (λ h. rw (e .1) (laws .by-table builtIn .read-written m out t (sym (e .0) ∙ h)), (demand-3, examples)))
 
 returns : tie.Need-returns
 unfolding writeAnswer written

@@ -5,6 +5,7 @@ use native.Mathlib.Omega.{arith}
 use borrow.Author.Needs.{needs}
 use borrow.Author.Tests.{not-true, not-false}
 use Rattle.events.specs.Table.{builtIn}
+use Rattle.events.proofs.Rule.{built-in-lawful}
 use Rattle.logs.specs.Layout.{arrays, Sized}
 use Rattle.meter.specs.State.{withLogs}
 use Rattle.meter.specs.Sound.{soundMeter}
@@ -18,8 +19,8 @@ use Rattle.replay.proofs.run.run_from.Tie as tie
 abbrev Inv-loop : tie.InvT-loop
 Inv-loop records first scalars₀ counts₀ clocks₀ codes₀ count i₀ scalars counts clocks codes i =
     (Sized (arrays counts clocks codes) × (soundMeter builtIn (withLogs scalars counts clocks codes) ≡ true))
-    × (meterAfter (withLogs scalars counts clocks codes) (recordsFrom i records)
-    ≡ meterAfter (withLogs scalars₀ counts₀ clocks₀ codes₀) (recordsFrom first records))
+    × (meterAfter builtIn (withLogs scalars counts clocks codes) (recordsFrom i records)
+    ≡ meterAfter builtIn (withLogs scalars₀ counts₀ clocks₀ codes₀) (recordsFrom first records))
 
 abbrev μ-loop : tie.MeasureT-loop
 μ-loop records first scalars₀ counts₀ clocks₀ codes₀ count i₀ scalars counts clocks codes i = count - i
@@ -32,7 +33,7 @@ before-sound : (c : tie.Else1 Inv-loop μ-loop) → soundMeter builtIn (c .befor
 before-sound c = sym (c .before .sound .ensures .0) ∙ not-false _ (c .if1 .left)
 
 returns : tie.Need-returns Inv-loop μ-loop
-returns c = not-sound-run _ _ (sym (c .before .sound .ensures .0) ∙ not-true _ (c .if1 .taken))
+returns c = not-sound-run builtIn _ _ (sym (c .before .sound .ensures .0) ∙ not-true _ (c .if1 .taken))
 
 loop-holds : tie.Need-loop-holds Inv-loop μ-loop
 loop-holds c =
@@ -54,9 +55,10 @@ loop-again c =
     let known = turn .before .before .before .before .before .before .before .before in
     let m = withLogs (l .scalars) (l .counts) (l .clocks) (l .codes) in
     let k =
-    next-turn (known .before .args .records .now) (l .i) m (read .whole-record-at .result)
+    next-turn builtIn (known .before .args .records .now) (l .i) m (read .whole-record-at .result)
     (outcomeOf (call .result) (call .last .1 .0) (call .last .1 .1 .0) (call .last .1 .1 .1 .0))
     (turn .loop-test .taken)
+    built-in-lawful
     (read .whole-record-at .ensures)
     (call .ensures ∙ built-in .command-in-parts m _ (l .inv .0 .0) (l .inv .0 .1))
     (λ i. omega (arith, known .shared-slice-known .given i))
@@ -69,7 +71,7 @@ returns-2 c =
     let a = c .before .before .before .before .before .before in
     let s = a .before .before .before .before .args .records .now in
     rw (c .of-parts .ensures)
-    (sym (last-turn s (l .i) (withLogs (l .scalars) (l .counts) (l .clocks) (l .codes)) (search needs))
+    (sym (last-turn builtIn s (l .i) (withLogs (l .scalars) (l .counts) (l .clocks) (l .codes)) (search needs))
     ∙ l .inv .1
     ∙ rw (a .scalars .ensures))
 
