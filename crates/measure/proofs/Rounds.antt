@@ -43,7 +43,8 @@ module _ (page s : List ℕ) (n : ℕ) (read : Outcome) (reads : read ≡ readOf
   unfolding callsAnswer callsPage
   rounds-written r m a after e runs wrote number =
       let accepted : readOf builtIn page .answer ≡ Accepted = ap (λ (o : Outcome). o .answer) (sym reads) ∙ e in
-      let last : m ≡ roundsFrom n (readOf builtIn page .meter) (recordsFrom 0 s) = runs ∙ ap (λ (o : Outcome). roundsFrom n (o .meter) (recordsFrom 0 s)) reads in (
+      let last : m ≡ roundsFrom n (readOf builtIn page .meter) (recordsFrom 0 s) =
+      runs ∙ ap (λ (o : Outcome). roundsFrom n (o .meter) (recordsFrom 0 s)) reads in (
         rw accepted (number ∙ ap answerNumber (wrote .0) ∙ ap (λ (m : Meter). answerNumber (writeAnswer builtIn m page)) last),
         rw accepted (wrote .1 ∙ ap (λ (m : Meter). written builtIn m page) last),
       )

@@ -1,28 +1,12 @@
 -- The numbers of a sound record whose numbers are values of their types fit the page's bytes.
-use mathlib.Core.Path.{_≡_, refl}
-use mathlib.Core.Bool.{Bool, true, false, _&&_, cond}
-use mathlib.Core.List.{List}
-use Prim.Native.Nat.{ℕ, zero, suc, _<_, _≤_, _^_}
-use native.Mathlib.Omega.{arith}
-use lib.Dec.{T, leb, ltb}
-use lib.IntN.{ℤ, pos, negsuc, natAbs}
-use lib.Signed.{nonNeg, leZ}
-use lib.ListN.{getD}
-use borrow.Author.Tests.{leb-true, ltb-true}
-use Rattle.base.proofs.Bools.{and-left, and-right}
-use Rattle.codec.specs.Format.{AllHold}
+use Rattle.page.proofs.Common.{_≡_, refl, Bool, true, false, _&&_, cond, List, ℕ, zero, suc, _<_, _≤_, _^_, arith, T, leb, ltb, ℤ, pos, negsuc, natAbs}
+use Rattle.page.proofs.Common.{nonNeg, leZ, getD, leb-true, ltb-true, and-left, and-right, AllHold, EventRow, isThreshold, isDuration, awaited}
+use Rattle.page.proofs.Common.{soundSettings, soundLimiter, Sized, soundLogs, Word, Meter, soundMeter, soundScalars}
 use Rattle.registers.specs.declared.Register.{Register}
-use Rattle.events.specs.Table.{EventRow}
 use Rattle.control.specs.declared.Control.{Control}
 use Rattle.control.specs.Control.{soundControl}
 use Rattle.limiter.specs.declared.Limiter.{Limiter}
-use Rattle.limiter.specs.Limiter.{isThreshold, isDuration, awaited, soundSettings, soundLimiter}
 use Rattle.logs.specs.declared.Logs.{Logs}
-use Rattle.logs.specs.Layout.{Sized, soundLogs}
-use Rattle.calls.specs.Calls.{Word}
-use Rattle.meter.specs.declared.Meter.{Meter}
-use Rattle.meter.specs.Sound.{soundMeter}
-use Rattle.steps.specs.Scalars.{soundScalars}
 use Rattle.page.specs.Layout.{controlArea, limiterArea, registerArea, lineFormat, logArea, logsArea, storedLines, layout}
 use Rattle.page.specs.Laws.{Typed}
 use Rattle.page.proofs.Lines.{length-lines}

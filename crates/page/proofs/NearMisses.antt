@@ -1,16 +1,8 @@
 -- The near misses of reader and writer, each by computing it.
-use mathlib.Core.Path.{refl}
-use mathlib.Core.List.{flatMap}
-use Rattle.base.specs.Tests.{among, below}
-use Rattle.codec.specs.Format.{numAt}
-use Rattle.events.specs.Table.{builtIn, lookup}
+use Rattle.page.proofs.Common.{refl, flatMap, among, below, numAt, builtIn, lookup, soundLimiter, ownCodes, zeroPast, soundLog, soundArrays, padded}
+use Rattle.page.proofs.Common.{flat, laid, soundLogs, soundMeter, soundScalars}
 use Rattle.events.specs.Codes.{besides, mayHold}
 use Rattle.control.specs.Control.{soundControl}
-use Rattle.limiter.specs.Limiter.{soundLimiter}
-use Rattle.logs.specs.Arrays.{ownCodes, zeroPast, soundLog, soundArrays}
-use Rattle.logs.specs.Layout.{padded, flat, laid, soundLogs}
-use Rattle.meter.specs.Sound.{soundMeter}
-use Rattle.steps.specs.Scalars.{soundScalars}
 use Rattle.page.specs.Layout.{ofAreas, layout, writeAnswer, hasPairs, holdsSound, readOf}
 use Rattle.page.specs.NearMisses.{NearMisses}
 

@@ -1,22 +1,11 @@
 -- The page that document 01 prints of an account is the page of the record that holds the account.
-use mathlib.Core.Path.{_≡_, refl, ap, _∙_}
-use mathlib.Core.Bool.{true}
-use mathlib.Core.List.{List, [], _∷_, _++_, append-assoc, append-nil, map, map-append, flatMap}
-use Prim.Native.Nat.{ℕ, zero, suc, _-_, _*_, _≤_}
-use native.Mathlib.Omega.{arith}
-use lib.ListN.{length, replicate, length-append, length-map, length-replicate}
-use Rattle.base.specs.Tests.{every}
-use Rattle.codec.specs.BigEndian.{be}
-use Rattle.codec.specs.Format.{encs}
-use Rattle.events.specs.Line.{Line, line}
-use Rattle.events.specs.Table.{EventRow, lawful}
-use Rattle.logs.specs.Layout.{lineClock, lineCode, padded, flat, laid}
+use Rattle.page.proofs.Common.{_≡_, refl, ap, _∙_, true, List, [], _∷_, _++_, append-assoc, append-nil, map, map-append, flatMap, ℕ, zero, suc, _-_, _*_}
+use Rattle.page.proofs.Common.{_≤_, arith, length, replicate, length-append, length-map, length-replicate, every, be, encs, Line, line, EventRow, lawful}
+use Rattle.page.proofs.Common.{lineClock, lineCode, padded, flat, laid, AllInRange, scalarsOf, recordOf}
 use Rattle.logs.proofs.Kept.{lists-length, lists-short}
 use Rattle.logs.proofs.Places.{Short, none, more}
 use Rattle.calls.specs.declared.Call.{Call}
-use Rattle.calls.specs.Calls.{AllInRange}
 use Rattle.history.specs.OnePhase.{Fresh, Account, account}
-use Rattle.meter.specs.State.{scalarsOf, recordOf}
 use Rattle.machine.specs.Sound.{soundState}
 use Rattle.meter.specs.Settings.{Settings}
 use Rattle.meter.specs.Holding.{holding}
@@ -26,7 +15,7 @@ use Rattle.page.specs.Layout.{controlArea, limiterArea, clockArea, regis
 use Rattle.page.specs.Layout.{pageOf}
 use Rattle.page.specs.AccountPage.{printedPairs, fields, logBytes, accountPage}
 use Rattle.page.proofs.Lines.{encs-append}
-use Rattle.page.proofs.Inverse.{three-back}
+use Rattle.page.proofs.Inverse.{of-three, three-back}
 
 -- the 32 places of a log
 abbrev filled : List Line → List Line
@@ -67,13 +56,12 @@ log-written xs = rw (encs-append lineFormat xs (replicate (32 - length xs) (line
 
 logs-written : (logs : List (List Line)) → length logs ≡ 3 → Short logs → logsArea .enc (laid logs) ≡ flatMap logBytes logs
 unfolding flatMap
-logs-written [] t s = absurd (omega arith)
-logs-written (x ∷ []) t s = absurd (omega arith)
-logs-written (x ∷ y ∷ []) t s = absurd (omega arith)
-logs-written (x ∷ y ∷ z ∷ w ∷ l) t s = absurd (omega arith)
-logs-written (x ∷ y ∷ z ∷ []) t (more i (more j (more k none))) =
-    ap (encs logArea) (ap areasOf (laid-areas x y z) ∙ three-back (area x) (area y) (area z) (length-filled x i) (length-filled y j) (length-filled z k))
-    ∙ rw (log-written x, log-written y, log-written z)
+logs-written logs t s = of-three (λ l. Short l → logsArea .enc (laid l) ≡ flatMap logBytes l) three logs t s
+  where
+    three : (x y z : List Line) → Short (x ∷ y ∷ z ∷ []) → logsArea .enc (laid (x ∷ y ∷ z ∷ [])) ≡ flatMap logBytes (x ∷ y ∷ z ∷ [])
+    three x y z (more i (more j (more k none))) =
+        ap (encs logArea) (ap areasOf (laid-areas x y z) ∙ three-back (area x) (area y) (area z) (length-filled x i) (length-filled y j) (length-filled z k))
+        ∙ rw (log-written x, log-written y, log-written z)
 
 module _ (a : Account) where
   pairs-written : flatMap (λ (p : ℕ × ℕ). be 2 (p .0) ++ be 2 (p .1)) printedPairs ≡ directory

@@ -1,24 +1,11 @@
 -- The numbers of an account are values of their types: those that are held at 32 bits, and those that calls bring.
-use mathlib.Core.Path.{_≡_, refl}
-use mathlib.Core.Bool.{true}
-use mathlib.Core.List.{List, [], _∷_, _++_, map, reverse}
-use Prim.Native.Nat.{ℕ, zero, suc, _-_, _<_, _^_}
-use native.Mathlib.Omega.{arith}
-use lib.Dec.{leb, ltb}
-use lib.ListN.{length, getD, replicate}
-use borrow.Author.Tests.{leb-true, ltb-true}
-use Rattle.base.specs.Tests.{every}
-use Rattle.base.proofs.Bools.{and-left, and-right}
+use Rattle.page.proofs.Common.{_≡_, refl, true, List, [], _∷_, _++_, map, reverse, ℕ, zero, suc, _-_, _<_, _^_, arith, leb, ltb, length, getD, replicate}
+use Rattle.page.proofs.Common.{leb-true, ltb-true, every, and-left, and-right, every-first, every-rest, pow-pos, Line, EventRow, lawful, lineClock}
+use Rattle.page.proofs.Common.{lineCode, padded, flat, laid, Word, AllInRange, recordOf}
 use Rattle.base.proofs.Bits.{number-lt}
-use Rattle.base.proofs.Every.{every-first, every-rest}
-use Rattle.codec.proofs.Numbers.{pow-pos}
-use Rattle.events.specs.Line.{Line}
-use Rattle.events.specs.Table.{EventRow, lawful}
-use Rattle.logs.specs.Layout.{lineClock as lineClock, lineCode, padded, flat, laid}
 use Rattle.logs.proofs.Places.{Short, none as noLog, more as moreLogs}
 use Rattle.logs.proofs.Kept.{lists-short}
 use Rattle.calls.specs.declared.Call.{Call}
-use Rattle.calls.specs.Calls.{Word, AllInRange}
 use Rattle.history.specs.Effects.{AnyFresh, WhichRegister, alarms, errors}
 use Rattle.history.specs.Last.{History}
 use Rattle.history.specs.Registers.{stands, bitsOf}
@@ -30,7 +17,6 @@ use Rattle.machine.proofs.Effects.{AllProper}
 use Rattle.machine.proofs.Ranges.{filter-word}
 use Rattle.machine.proofs.Fits.{fits, log-fits}
 use Rattle.machine.proofs.Simulates.{all-proper}
-use Rattle.meter.specs.State.{recordOf}
 use Rattle.meter.specs.Settings.{Settings}
 use Rattle.meter.proofs.Ranges.{settings, calls-range}
 use Rattle.meter.specs.Holding.{holding}

@@ -1,18 +1,8 @@
 -- Demand 3: the record after a list holds the account, its numbers fit the page's bytes, and a page gives back the record that it was written from.
-use mathlib.Core.Path.{_≡_, refl, sym, ap, _∙_}
-use mathlib.Core.Bool.{true}
-use mathlib.Core.List.{List}
-use Prim.Native.Nat.{ℕ, _≤_}
-use native.Mathlib.Omega.{arith}
-use lib.ListN.{length, replicate}
-use borrow.Author.Tests.{le-leb}
-use Rattle.calls.specs.declared.Answer.the-variants.{Accepted}
+use Rattle.page.proofs.Common.{_≡_, refl, sym, ap, _∙_, true, List, ℕ, _≤_, arith, length, replicate, le-leb, Accepted, Meter, firstLimiter, stateOf}
+use Rattle.page.proofs.Common.{recordOf, soundMeter}
 use Rattle.history.specs.OnePhase.{Account}
-use Rattle.meter.specs.declared.Meter.{Meter}
-use Rattle.steps.specs.Scalars.{firstLimiter}
-use Rattle.meter.specs.State.{stateOf, recordOf}
 use Rattle.machine.specs.Values.{State}
-use Rattle.meter.specs.Sound.{soundMeter}
 use Rattle.machine.specs.Sound.{soundState}
 use Rattle.meter.specs.Machine.{recordAfter}
 use Rattle.meter.specs.Settings.{Settings}

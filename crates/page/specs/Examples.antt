@@ -42,8 +42,34 @@ worked =
       lawful-rows = built-in-lawful;
       accepted = bench-accepted;
       settings-in-range = bench-in-range;
-      calls-in-range =
-          ((refl, refl), ((refl, refl), ((refl, refl), (tt, ((refl, refl), ((refl, refl), ((refl, refl), (tt, (tt, (omega arith, (omega arith, (omega arith, (omega arith, (tt, tt))))))))))))));
+      calls-in-range = (
+        (refl, refl),
+        (
+          (refl, refl),
+          (
+            (refl, refl),
+            (
+              tt,
+              (
+                (refl, refl),
+                (
+                  (refl, refl),
+                  (
+                    (refl, refl),
+                    (
+                      tt,
+                      (
+                        tt,
+                        (omega arith, (omega arith, (omega arith, (omega arith, (tt, tt))))),
+                      ),
+                    ),
+                  ),
+                ),
+              ),
+            ),
+          ),
+        ),
+      );
     }
 
 -- its settings and no call

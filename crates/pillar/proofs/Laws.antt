@@ -238,7 +238,8 @@ module _ (rows : List EventRow) (table : every lawful rows ≡ true) where
         ∙ go (callOf r) i (pages-from rs)
       where
         go : (p : Parsed) → AllInRange (withCall p (callsIn rs))
-            → ((calls : List Call) → AllInRange (callsIn rs) → AllInRange calls → callPages rows (pageOf (reached calls)) rs ≡ pageOf (meterAfter rows (reached calls) rs))
+            → ((calls : List Call) → AllInRange (callsIn rs) → AllInRange calls
+            → callPages rows (pageOf (reached calls)) rs ≡ pageOf (meterAfter rows (reached calls) rs))
             → callPages rows (pageOf (performed rows (reached calls) p .meter)) rs ≡ pageOf (recordAfter rows (reached calls) (withCall p (callsIn rs)))
         go (Ok c) i rest =
             ap (λ (m : Meter). callPages rows (pageOf m) rs) (sym (behind (recordOf (freshState f)) calls c))

@@ -1,14 +1,6 @@
 -- The record in its parts: the scalars and the arrays of the logs, read apart, make the record, and their tests are its test.
-use mathlib.Core.Path.{_≡_, ap, _∙_}
-use mathlib.Core.Bool.{Bool, _&&_}
-use mathlib.Core.List.{List}
-use Prim.Native.Nat.{ℕ}
-use Rattle.events.specs.Table.{builtIn}
-use Rattle.logs.specs.Arrays.{soundArrays}
+use Rattle.page.proofs.Common.{_≡_, ap, _∙_, Bool, _&&_, List, ℕ, builtIn, soundArrays, scalarsOf, withLogs, soundMeter, soundScalars}
 use Rattle.steps.specs.declared.Scalars.{Scalars}
-use Rattle.meter.specs.State.{scalarsOf, withLogs}
-use Rattle.meter.specs.Sound.{soundMeter}
-use Rattle.steps.specs.Scalars.{soundScalars}
 use Rattle.meter.proofs.Tail.{sound-is}
 use Rattle.page.specs.Layout.{logsArea, layout, meterIn}
 

@@ -1,22 +1,9 @@
 -- The reader's test of the bytes: bytes that pass hold a threshold that its field can hold, and the record of bytes that do not is not sound.
-use mathlib.Core.Path.{_≡_, refl, sym, _∙_}
-use mathlib.Core.Bool.{Bool, true, false, _&&_, and-true}
-use mathlib.Core.List.{List}
-use Prim.Native.Nat.{ℕ, _≤_}
-use native.Mathlib.Omega.{arith}
-use lib.Dec.{leb, ltb}
-use borrow.Author.Tests.{leb-true, le-leb}
-use Rattle.base.proofs.Bools.{and-left, and-right}
-use Rattle.codec.specs.Format.{numAt}
-use Rattle.events.specs.Table.{builtIn}
+use Rattle.page.proofs.Common.{_≡_, refl, sym, _∙_, Bool, true, false, _&&_, and-true, List, ℕ, _≤_, arith, leb, ltb, leb-true, le-leb, and-left, and-right}
+use Rattle.page.proofs.Common.{numAt, builtIn, isThreshold, isDuration, awaited, soundSettings, soundLimiter, soundLogs, Meter, scalarsOf, soundMeter}
+use Rattle.page.proofs.Common.{soundScalars}
 use Rattle.control.specs.Control.{soundControl}
-use Rattle.limiter.specs.Limiter.{isThreshold, isDuration, awaited, soundSettings, soundLimiter}
-use Rattle.logs.specs.Layout.{soundLogs}
-use Rattle.meter.specs.declared.Meter.{Meter}
 use Rattle.steps.specs.declared.Scalars.{Scalars}
-use Rattle.meter.specs.State.{scalarsOf}
-use Rattle.meter.specs.Sound.{soundMeter}
-use Rattle.steps.specs.Scalars.{soundScalars}
 use Rattle.page.specs.Layout.{layout, start, meterIn, isRecord, holdsSound}
 
 -- sound scalars have a threshold of its range

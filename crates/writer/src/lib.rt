@@ -1,11 +1,10 @@
 // The page's writer.
 ghost use mathlib.Core.Path.{_≡_};
-ghost use mathlib.Core.Bool.{true};
 ghost use lib.ListN.{take};
 ghost use Rattle.events.specs.Table.{builtIn};
 ghost use Rattle.meter.specs.State.{withLogs};
-ghost use Rattle.meter.specs.Sound.{soundMeter};
 ghost use Rattle.page.specs.Layout.{size, writeAnswer, written, acceptedOutcome, readOf};
+ghost use Rattle.writer.specs.Put.{WritesSound};
 ghost use Rattle.page.specs.Demand3.{Demand3};
 ghost use Rattle.page.specs.Examples.{Examples};
 
@@ -42,7 +41,7 @@ pub fn write_sound<'a>(
     codes: &'a [u8; 96],
     out: &mut [u8],
 ) -> Answer
-    ensures { λ r. ⌜ (let m = withLogs scalars (now (counts .entry)) (now (clocks .entry)) (now (codes .entry)) in soundMeter builtIn m ≡ true → (r ≡ writeAnswer builtIn m (now (out .entry))) × (now (out .exit) ≡ written builtIn m (now (out .entry)))) ⌝ }
+    ensures { λ r. ⌜ WritesSound builtIn (withLogs scalars (now (counts .entry)) (now (clocks .entry)) (now (codes .entry))) (now (out .entry)) r (now (out .exit)) ⌝ }
 {
     if out.len() < PAGE_LEN {
         return Answer::Refused(8);

@@ -41,8 +41,10 @@ loop-again c =
     let page = turn .before .before .args .page .now in
     let counted : counts .count-round .last .0 ≡ pageInRound page (l .round) = counts .count-round .ensures ∙ rw (l .inv .2) (next-page page (l .round)) in (
       search needs,
-      next-passing (l .round) (l .accepted) (c .one-if .result) (λ i. isAccepted (readOf builtIn (pageInRound page i) .answer)) _ (l .inv .1) (c .one-if .ensures)
-          (ap (λ (k : ℕ). eqb k 0) (c .before .number .ensures) ∙ ap (λ (o : Outcome). isAccepted (o .answer)) (reads .read-page .ensures .0 ∙ ap (readOf builtIn) counted)),
+      next-passing (l .round) (l .accepted) (c .one-if .result) (λ i. isAccepted (readOf builtIn (pageInRound page i) .answer)) _ (l .inv .1)
+          (c .one-if .ensures)
+          (ap (λ (k : ℕ). eqb k 0) (c .before .number .ensures)
+          ∙ ap (λ (o : Outcome). isAccepted (o .answer)) (reads .read-page .ensures .0 ∙ ap (readOf builtIn) counted)),
       counted ∙ after-round page (l .round),
       search needs,
     )

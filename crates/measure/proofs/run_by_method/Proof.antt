@@ -30,7 +30,8 @@ loop-again c =
     let read = next .before in
     let turn = read .before in
     let l = turn .before .loop in
-    after-record builtIn _ (l .i) (l .meter) (read .record-at .result) (next .next .result) (turn .loop-test .taken) (read .record-at .ensures) (next .next .ensures)
+    after-record builtIn _ (l .i) (l .meter) (read .record-at .result) (next .next .result) (turn .loop-test .taken)
+    (read .record-at .ensures) (next .next .ensures)
     ∙ l .inv
 
 returns : tie.Need-returns Inv-loop μ-loop

@@ -1,13 +1,5 @@
-use mathlib.Core.Path.{_≡_, _∙_, sym}
-use mathlib.Core.Bool.{true, _&&_}
-use mathlib.Core.List.{List}
-use Prim.Native.Nat.{ℕ}
-use native.Mathlib.Omega.{arith}
-use borrow.Author.Tests.{not-true, not-false, ne-eqb, eq-eqb}
-use Rattle.codec.specs.Lawful.{Bytes}
-use Rattle.events.specs.Table.{builtIn}
+use Rattle.page.proofs.Common.{_≡_, _∙_, sym, true, _&&_, List, ℕ, arith, not-true, not-false, ne-eqb, eq-eqb, Bytes, builtIn, soundMeter, needs}
 use Rattle.meter.specs.declared.Outcome.{Outcome}
-use Rattle.meter.specs.Sound.{soundMeter}
 use Rattle.page.specs.Layout.{meterIn, isRecord, readOf}
 use Rattle.page.specs.Laws.{Laws, WrittenBack}
 use Rattle.page.specs.NearMisses.{NearMisses}
@@ -15,7 +7,6 @@ use Rattle.reader.proofs.Threshold.{failed, passed-sound}
 use Rattle.reader.proofs.Parts.{parts-make, parts-sound}
 use Rattle.page.proofs.RoundTrip.{laws, written-back}
 use Rattle.page.proofs.NearMisses.{near-misses}
-use borrow.Author.Needs.{needs}
 use Rattle.reader.proofs.read_page.Statement.{statement}
 use Rattle.reader.proofs.read_page.Tie as tie
 
@@ -82,9 +73,9 @@ returns-4 c =
     let t = c .before .before in
     let v = passed t .before in
     let d = v .before .before in
-    let test = sym (tested t) ∙ not-true _ (c .before .if4 .taken) in
+    let test = passed-sound (bytes t) (valid t) ∙ sym (tested t) ∙ not-true _ (c .before .if4 .taken) in
     promises _ _ (all-bytes (d .before .before))
-    (rw (c .refused4 .ensures, eq-eqb _ _ (d .before .if1 .left), sym (d .has-pairs .ensures) ∙ not-false _ (v .before .if2 .left), passed-sound (bytes t) (valid t) ∙ test))
+    (rw (c .refused4 .ensures, eq-eqb _ _ (d .before .if1 .left), sym (d .has-pairs .ensures) ∙ not-false _ (v .before .if2 .left), test))
 
 returns-5 : tie.Need-returns-5
 unfolding readOf
@@ -96,9 +87,9 @@ returns-5 c =
     let counts = lines .before .before .before .before in
     let meter = c .of-parts .ensures ∙ parts-make (bytes t) (scalars t .scalars-at .ensures) (counts .counts-at .ensures)
     (lines .lines-at .ensures .0) (lines .lines-at .ensures .1) in
-    let test = sym (tested t) ∙ not-false _ (c .before .if4 .left) in
+    let test = passed-sound (bytes t) (valid t) ∙ sym (tested t) ∙ not-false _ (c .before .if4 .left) in
     promises _ _ (all-bytes (d .before .before))
-    (rw (meter, eq-eqb _ _ (d .before .if1 .left), sym (d .has-pairs .ensures) ∙ not-false _ (v .before .if2 .left), passed-sound (bytes t) (valid t) ∙ test))
+    (rw (meter, eq-eqb _ _ (d .before .if1 .left), sym (d .has-pairs .ensures) ∙ not-false _ (v .before .if2 .left), test))
 
 pub read-page-spec : {M : Type 1} → statement M
 read-page-spec =

@@ -74,7 +74,8 @@ page-written c =
     let whole = run .before in
     let fresh = whole .before .before .before in
     let known = fresh .before .before .before .before .before .before .before in
-    ended builtIn built-in-lawful (begins fresh) (λ i. omega (arith, known .shared-slice-known .given i)) (whole .before .enum-told .given .1) (eq-eqb _ _ (whole .if4 .left))
+    ended builtIn built-in-lawful (begins fresh) (λ i. omega (arith, known .shared-slice-known .given i)) (whole .before .enum-told .given .1)
+    (eq-eqb _ _ (whole .if4 .left))
     (run .run-from .result) (c .write-page .result) (c .write-page .last .1 .0) (run .run-from .ensures) (c .write-page .ensures .0)
 
 returns : tie.Need-returns

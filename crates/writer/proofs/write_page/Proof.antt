@@ -1,19 +1,6 @@
-use mathlib.Core.Path.{_≡_, _∙_, sym, ap}
-use mathlib.Core.Bool.{_&&_}
-use mathlib.Core.List.{List}
-use Prim.Native.Nat.{ℕ, _<_, _^_}
-use native.Mathlib.Omega.{arith}
-use lib.ListN.{getD, take}
-use mir.Syntax.{Width, w8, w32}
-use mir.Val.{Fits, bits}
-use borrow.Author.Needs.{needs}
-use borrow.Author.Tests.{not-true, not-false}
-use Rattle.events.specs.Table.{builtIn}
+use Rattle.page.proofs.Common.{_≡_, _∙_, sym, ap, _&&_, List, ℕ, _<_, _^_, arith, getD, take, Width, w8, w32, Fits, bits, needs, not-true, not-false, builtIn}
+use Rattle.page.proofs.Common.{Accepted, Refused, soundScalars, Meter, soundMeter}
 use Rattle.calls.specs.declared.Answer.{Answer}
-use Rattle.calls.specs.declared.Answer.the-variants.{Accepted, Refused}
-use Rattle.steps.specs.Scalars.{soundScalars}
-use Rattle.meter.specs.declared.Meter.{Meter}
-use Rattle.meter.specs.Sound.{soundMeter}
 use Rattle.meter.proofs.Tail.{sound-is}
 use Rattle.page.specs.Layout.{size, writeAnswer, written, acceptedOutcome, readOf}
 use Rattle.page.specs.Demand3.{Demand3}
@@ -58,7 +45,8 @@ typed c =
 
 -- what the writer promises, by what it answers and leaves
 writer-promises : (m : Meter) (out : List ℕ) (a : Answer) (left : List ℕ) → Typed m → (a ≡ writeAnswer builtIn m out) × (left ≡ written builtIn m out)
-    → ((a ≡ writeAnswer builtIn m out) × (left ≡ written builtIn m out)) × ((a ≡ Accepted → readOf builtIn (take size left) ≡ acceptedOutcome m) × (Demand3 × Examples))
+    → ((a ≡ writeAnswer builtIn m out) × (left ≡ written builtIn m out))
+    × ((a ≡ Accepted → readOf builtIn (take size left) ≡ acceptedOutcome m) × (Demand3 × Examples))
 writer-promises m out a left t e = (e, (λ h. rw (e .1) (laws .by-table builtIn .read-written m out t (sym (e .0) ∙ h)), (demand-3, examples)))
 
 returns : tie.Need-returns

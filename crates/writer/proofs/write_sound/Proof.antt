@@ -1,15 +1,5 @@
-use mathlib.Core.Path.{_≡_, refl}
-use mathlib.Core.Bool.{true}
-use borrow.Author.Needs.{needs}
-use borrow.Author.Tests.{lt-leb, le-leb}
-use Rattle.base.proofs.Bools.{and-right}
-use Rattle.events.specs.Table.{builtIn}
-use Rattle.logs.specs.Arrays.{soundArrays}
-use Rattle.logs.specs.Layout.{soundLogs}
-use Rattle.meter.specs.declared.Meter.{Meter}
-use Rattle.meter.specs.State.{scalarsOf, withLogs}
-use Rattle.steps.specs.Scalars.{soundScalars}
-use Rattle.meter.specs.Sound.{soundMeter}
+use Rattle.page.proofs.Common.{_≡_, refl, true, needs, lt-leb, le-leb, and-right, builtIn, soundArrays, soundLogs, Meter, scalarsOf, withLogs, soundScalars}
+use Rattle.page.proofs.Common.{soundMeter}
 use Rattle.page.specs.Layout.{writeAnswer, written}
 use Rattle.writer.proofs.Stored.{page-left}
 use Rattle.writer.proofs.write_sound.Statement.{statement}
