@@ -1,8 +1,9 @@
 //! What has been compared, and whether it is enough for a run to pass.
 
+use crate::case::Case;
 use std::collections::BTreeMap;
 
-/// From this many calls on, a run must have met every answer.
+/// From this many calls on, a run must have met every answer and case.
 pub const CALLS_FOR_EVERY_ANSWER: u64 = 100_000;
 
 /// What calls, fresh and the reader must have answered. 12 cannot be asked of
@@ -17,6 +18,9 @@ const REPLAY_ANSWERS: [u32; 7] = [0, 1, 5, 8, 100, 101, 102];
 /// How often each answer was given.
 pub type Answers = BTreeMap<u32, u64>;
 
+/// How often each case was met.
+pub type Cases = BTreeMap<Case, u64>;
+
 /// What has been compared so far.
 #[derive(Clone, Default)]
 pub struct Counts {
@@ -26,6 +30,8 @@ pub struct Counts {
     /// Of calls, fresh and the reader.
     pub answers: Answers,
     pub replay_answers: Answers,
+    /// Of calls.
+    pub cases: Cases,
 }
 
 impl Counts {
@@ -35,6 +41,10 @@ impl Counts {
 
     pub fn count_replay_answer(&mut self, answer: u32) {
         *self.replay_answers.entry(answer).or_default() += 1;
+    }
+
+    pub fn count_case(&mut self, case: Case) {
+        *self.cases.entry(case).or_default() += 1;
     }
 
     /// What a run of `calls` calls lacks, one line each; nothing if it passes.
@@ -57,6 +67,10 @@ impl Counts {
         if !never.is_empty() {
             lacking.push(format!("no replay answered {never}"));
         }
+        let never = Case::ALL
+            .iter()
+            .filter(|case| !self.cases.contains_key(case));
+        lacking.extend(never.map(|case| format!("never met: {}", case.name())));
         lacking
     }
 }
@@ -82,6 +96,7 @@ mod tests {
         for answer in [0, 1, 5, 8, 100, 101, 102] {
             counts.count_replay_answer(answer);
         }
+        Case::ALL.iter().for_each(|&case| counts.count_case(case));
         counts
     }
 
@@ -112,6 +127,16 @@ mod tests {
             let mut counts = enough();
             counts.replay_answers.remove(&answer);
             let told = format!("no replay answered {answer}");
+            assert_eq!(counts.lacking(CALLS_FOR_EVERY_ANSWER), [told]);
+        }
+    }
+
+    #[test]
+    fn each_missing_case_fails() {
+        for case in Case::ALL {
+            let mut counts = enough();
+            counts.cases.remove(&case);
+            let told = format!("never met: {}", case.name());
             assert_eq!(counts.lacking(CALLS_FOR_EVERY_ANSWER), [told]);
         }
     }

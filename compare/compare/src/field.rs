@@ -14,6 +14,9 @@ pub const ERRORS: usize = 67;
 pub const LOGS: [usize; 3] = [75, 236, 397];
 pub const LINES: usize = 32;
 
+/// The switch at Ready for reconnection.
+pub const READY: u8 = 2;
+
 const FIELDS: [(usize, &str); 14] = [
     (0, "pairs"),
     (MODE, "mode"),

@@ -1,7 +1,7 @@
 //! Calls and settings, aimed at the places where cores go wrong.
 
 use crate::call::Call;
-use crate::field;
+use crate::field::{self, READY};
 use crate::random::Random;
 use pillar::{PAGE, Settings};
 
@@ -139,6 +139,11 @@ impl Generator {
         if self.profile == Profile::UnknownKinds && random.one_in(2) {
             return unknown_kind(random);
         }
+        if random.one_in(4)
+            && let Some(call) = aimed(random, page)
+        {
+            return call;
+        }
         let kind = random.pick(self.profile.kinds());
         let reach = self.profile.reach(random);
         // Numbers that a call doesn't use are drawn too; both sides ignore them.
@@ -236,6 +241,17 @@ fn unknown_kind(random: &mut Random) -> Call {
     }
 }
 
+/// A call of [`Case`](crate::case::Case), if the meter of this page is met by one.
+fn aimed(random: &mut Random, page: &[u8; PAGE]) -> Option<Call> {
+    let (kind, number) = match (page[field::MODE], page[field::SWITCH]) {
+        (2 | 4, READY) => random.pick(&[(3, 0), (15, 2)]),
+        _ => return None,
+    };
+    let mut numbers = [0; 5].map(|_| random.number());
+    numbers[0] = number;
+    Some(Call { kind, numbers })
+}
+
 /// Run one or two samples before its end, also for the longest durations.
 fn patch_run(random: &mut Random, page: &mut [u8; PAGE]) {
     let stretch = random.pick(&[1, 2, 3, 86_399, 86_400]);
@@ -297,5 +313,26 @@ fn draw(random: &mut Random, reach: Reach, usual: &[u32], edge: &[u32]) -> u32 {
         Reach::Edge => random.pick(edge),
         Reach::Wide if random.one_in(2) => number | random.number() << 8,
         Reach::Wide => number | random.number() << 16,
+    }
+}
+
+#[cfg(test)]
+mod tests {
+    use super::*;
+    use crate::case::Case;
+
+    #[test]
+    fn an_aimed_call_meets_a_case() {
+        let mut random = Random::new(1);
+        let mut page = [0; PAGE];
+        let mut aims = 0;
+        for _ in 0..1000 {
+            patch_switch(&mut random, &mut page);
+            if let Some(call) = aimed(&mut random, &page) {
+                assert!(Case::of(call, &page).is_some(), "{call}");
+                aims += 1;
+            }
+        }
+        assert!(aims > 0);
     }
 }

@@ -1,6 +1,7 @@
 //! Compares plain with the proved core, call by call and page by page.
 
 mod call;
+mod case;
 mod counts;
 mod damage;
 mod difference;
@@ -92,6 +93,9 @@ fn report(counts: &Counts, options: &Options) -> ExitCode {
         counts.lists,
         listed(&counts.replay_answers)
     );
+    for (case, times) in &counts.cases {
+        println!("{}: {times}", case.name());
+    }
     let compared = format!(
         "compared {} calls, {} damaged pages, seed {}",
         counts.calls, counts.pages, options.seed

@@ -6,7 +6,7 @@ use plain::fault;
 
 type Run = fn(&Plan) -> Result<Counts, Box<Found>>;
 
-pub const PLANTED: [(&str, Run); 15] = [
+pub const PLANTED: [(&str, Run); 19] = [
     (
         "trips at power equal to threshold",
         run::<{ fault::TRIPS_AT_THRESHOLD }>,
@@ -60,5 +60,21 @@ pub const PLANTED: [(&str, Run); 15] = [
     (
         "judges a page before the kind of the call on it",
         run::<{ fault::READS_BEFORE_KIND }>,
+    ),
+    (
+        "stays Ready on a remote reconnect in modes 2 and 4",
+        run::<{ fault::STAYS_READY }>,
+    ),
+    (
+        "closes from Ready on a remote reconnect in every mode",
+        run::<{ fault::CLOSES_IN_EVERY_MODE }>,
+    ),
+    (
+        "closes from Ready by call 3 and not by script 2",
+        run::<{ fault::SCRIPT_STAYS_READY }>,
+    ),
+    (
+        "logs 59 where a remote reconnect closes from Ready",
+        run::<{ fault::LOGS_59_FROM_READY }>,
     ),
 ];

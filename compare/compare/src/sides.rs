@@ -2,6 +2,7 @@
 //! as its page. Whatever is done is done to both and compared at once.
 
 use crate::call::Call;
+use crate::case::Case;
 use crate::counts::Counts;
 use crate::difference::{Difference, Outcome, judge};
 use pillar::{PAGE, Settings};
@@ -83,6 +84,9 @@ impl<const FAULT: u8> Sides<FAULT> {
         self.counts.calls += 1;
         judge(plain, pillar, &before, || call.to_string())?;
         self.counts.count_answer(answer);
+        if let Some(case) = Case::of(call, &before) {
+            self.counts.count_case(case);
+        }
         Ok(())
     }
 

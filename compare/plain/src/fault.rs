@@ -35,3 +35,11 @@ pub const IGNORES_SAME_LIMITER: u8 = 13;
 pub const LOCAL_RECONNECT_IN_4: u8 = 14;
 /// A call on a page judges the page before the kind.
 pub const READS_BEFORE_KIND: u8 = 15;
+/// A remote reconnect leaves Ready in modes 2 and 4 too, as before A1.
+pub const STAYS_READY: u8 = 16;
+/// A remote reconnect closes from Ready in modes 1, 3, 5 and 6 too.
+pub const CLOSES_IN_EVERY_MODE: u8 = 17;
+/// Script 2 leaves Ready, though call 3 closes.
+pub const SCRIPT_STAYS_READY: u8 = 18;
+/// A remote reconnect that closes from Ready writes line 59.
+pub const LOGS_59_FROM_READY: u8 = 19;

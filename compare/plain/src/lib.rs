@@ -1,12 +1,13 @@
-//! The switching core of the pillar meter, written from document 01, but for
-//! one thing: document 01 gives the faults of a list no numbers, so those of
-//! [`Machine::replay`], 100 to 102, and the order of its refusals are the C
-//! interface's (`pillar.h`).
+//! The switching core of the pillar meter, written from document 01 and request
+//! A1 of document 02, but for one thing: they give the faults of a list no
+//! numbers, so those of [`Machine::replay`], 100 to 102, and the order of its
+//! refusals are the C interface's (`pillar.h`).
 //!
 //! [`Meter`] is the record with its fifteen calls. Every call works in place
 //! and answers `Ok(())` or the number of its refusal; a refused call leaves
 //! the record as it was. [`Vectorised`] is the same with a test of the logs that
-//! is tuned for speed. The quotations in the comments are document 01's.
+//! is tuned for speed. The quotations in the comments are document 01's, but
+//! for those marked (02, A1).
 
 mod events;
 #[cfg(feature = "faults")]

@@ -332,6 +332,7 @@ fn a_call_on_a_page_judges_the_kind_first() {
 #[test]
 fn requests_follow_the_switch_table() {
     for mode in 1..=6 {
+        // "There a remote reconnect now also moves 2 to 1 and logs 63" (02, A1).
         let a = matches!(mode, 2 | 4);
         let f = matches!(mode, 1 | 2 | 5);
         let back = if a { (CONNECTED, 63) } else { (READY, 59) };
@@ -342,7 +343,8 @@ fn requests_follow_the_switch_table() {
         assert_eq!(request(mode, READY, 2), go((DISCONNECTED, 62)));
         assert_eq!(request(mode, DISCONNECTED, 3), go(back));
         assert_eq!(request(mode, CONNECTED, 3), stay(CONNECTED));
-        assert_eq!(request(mode, READY, 3), stay(READY));
+        let from_ready = if a { go(back) } else { stay(READY) };
+        assert_eq!(request(mode, READY, 3), from_ready);
         assert_eq!(request(mode, DISCONNECTED, 5), stay(DISCONNECTED));
         assert_eq!(request(mode, CONNECTED, 5), stay(CONNECTED));
         assert_eq!(request(mode, READY, 5), go((CONNECTED, 61)));
@@ -360,11 +362,30 @@ fn requests_follow_the_switch_table() {
     }
 }
 
+/// "Script: 1 is call 2, 2 is call 3."
+#[test]
+fn scripts_are_the_calls_they_name() {
+    for mode in 0..=6 {
+        for position in [DISCONNECTED, CONNECTED, READY] {
+            if mode == 0 && position != CONNECTED {
+                continue;
+            }
+            let script = |number| call(mode, position, 15, number);
+            assert_eq!(script(1), request(mode, position, 2));
+            assert_eq!(script(2), request(mode, position, 3));
+        }
+    }
+}
+
 fn request(mode: u8, switch: u8, kind: u32) -> (u8, u8, Option<u8>) {
+    call(mode, switch, kind, 0)
+}
+
+fn call(mode: u8, switch: u8, kind: u32, number: u32) -> (u8, u8, Option<u8>) {
     let mut meter = example();
     meter.mode = mode;
     meter.switch = switch;
-    let answer = meter.command(kind, [0; 5]).err().unwrap_or(0);
+    let answer = meter.command(kind, [number, 0, 0, 0, 0]).err().unwrap_or(0);
     let opened = switch == CONNECTED && meter.switch != CONNECTED;
     assert_eq!(meter.openings, opened.into());
     let line = meter.logs[DISCONNECT].lines().last().map(|line| line.1);

@@ -1,6 +1,6 @@
 -- What the switch table's rows answer, in the shape of the code's `match`.
 use mathlib.Core.Path.{_≡_, refl}
-use mathlib.Core.Bool.{Bool, true, false, _||_, cond, and-false}
+use mathlib.Core.Bool.{Bool, true, false, _||_, cond, and-false, or-false}
 use mathlib.Core.List.{[], _∷_}
 use Prim.Native.Nat.{ℕ, zero, suc, _<_, _≤_}
 use native.Mathlib.Omega.{arith}
@@ -23,7 +23,7 @@ abbrev from : ℕ → ℕ → ℕ → ℕ → Decision
 from start s t n = cond (eqb s start) (Move t n (eqb s 1)) Stay
 
 abbrev inListedMode : Request → ℕ → ℕ → Decision
-inListedMode RemoteReconnect m s = cond (among (2 ∷ 4 ∷ []) m) (from 0 s 1 63) (from 0 s 2 59)
+inListedMode RemoteReconnect m s = cond (among (2 ∷ 4 ∷ []) m) (cond (among (0 ∷ 2 ∷ []) s) (Move 1 63 (eqb s 1)) Stay) (from 0 s 2 59)
 inListedMode RemoteDisconnect m s = cond (within 1 2 s) (Move 0 62 (eqb s 1)) Stay
 inListedMode ManualReconnect m s = from 2 s 1 61
 inListedMode ManualDisconnect m s = cond (eqb m 5 || within 1 2 m) (from 1 s 2 60) NotListed
@@ -43,7 +43,7 @@ at P zero h m b = absurd (omega arith)
 at P (suc k) h m b =
     by-test (ltb m k) (λ e. at P k (h .0) m (ltb-true m k e)) (λ e. let z : m ≡ k = omega (arith, ltb-false m k e) in rw z (h .1))
 
--- a remote disconnect has two rows, from 1 and from 2
+-- a remote disconnect has two rows, from 1 and from 2, and so has a remote reconnect in modes 2 and 4, from 0 and from 2
 two-rows : (a b w o : Bool) (t n : ℕ) → a || b ≡ w → cond a (Move t n o) (orStay (cond b (Move t n o) Stay)) ≡ cond w (Move t n o) Stay
 two-rows true b w o t n e = rw (← e)
 two-rows false true w o t n e = rw (← e)
@@ -57,11 +57,15 @@ one-or-two (suc (suc (suc s))) =
     let n : ℕ = suc (suc (suc s)) in
     simp (ne-eqb n 1 (λ e. omega arith), ne-eqb n 2 (λ e. omega arith), lt-leb n 2 (omega arith), and-false)
 
+zero-or-two : (s : ℕ) → eqb s 0 || eqb s 2 ≡ among (0 ∷ 2 ∷ []) s
+unfolding among
+zero-or-two s = simp or-false
+
 -- modes 0 to 6, by computing
 computed : (q : Request) (s : ℕ) → Below 7 (λ m. decision switchTable q m s ≡ answered q m s)
 unfolding decision switchTable among answered
 computed RemoteDisconnect s = search (two-rows, one-or-two s) depth 9
-computed RemoteReconnect s = search
+computed RemoteReconnect s = search (two-rows, zero-or-two s) depth 9
 computed ManualDisconnect s = search
 computed ManualReconnect s = search
 computed LocalDisconnect s = search

@@ -26,10 +26,12 @@ switchRow x q ms s t n = record { letter = x; request = q; modes = ms; from = s;
 abbrev pub oneToSix : List ℕ
 oneToSix = 1 ∷ 2 ∷ 3 ∷ 4 ∷ 5 ∷ 6 ∷ []
 
--- the rows in document 01's order; 'b, c' is b from state 1 and c from state 2
+-- the rows in document 01's order; 'b, c' is b from state 1 and c from state 2. Document 02, A1: 'There a remote reconnect now also moves 2 to 1 and
+-- logs 63', there being modes 2 and 4; A2: 'The new move of A1 bears the letter a'
 unfoldable pub switchTable : List SwitchRow
 switchTable =
     switchRow a RemoteReconnect (2 ∷ 4 ∷ []) 0 1 63
+    ∷ switchRow a RemoteReconnect (2 ∷ 4 ∷ []) 2 1 63
     ∷ switchRow d RemoteReconnect (1 ∷ 3 ∷ 5 ∷ 6 ∷ []) 0 2 59
     ∷ switchRow b RemoteDisconnect oneToSix 1 0 62
     ∷ switchRow c RemoteDisconnect oneToSix 2 0 62

@@ -60,7 +60,11 @@ pub fn decide(request: Request, mode: u8, state: u8) -> Decision
     match mode {
         1..=6 => match request {
             Request::RemoteReconnect => match mode {
-                2 | 4 => move_from(0, state, 1, 63),
+                // Two rows: from state 0 and from state 2.
+                2 | 4 => match state {
+                    0 | 2 => leave(state, 1, 63),
+                    _ => Decision::Stay,
+                },
                 _ => move_from(0, state, 2, 59),
             },
             // Two rows: from state 1 and from state 2.

@@ -31,6 +31,7 @@ histories =
       firing-once = refl;
       reconnect-decides = refl;
       reconnect-outside = refl;
+      reconnect-from-ready = refl;
       mode-at-the-call = refl;
       spell-inside = refl;
       inside-a-spell = refl;

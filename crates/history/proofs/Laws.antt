@@ -3,7 +3,7 @@ use Rattle.history.specs.Effects.{AnyFresh}
 use Rattle.history.specs.Limiter.{observations}
 use Rattle.history.specs.Laws.{LawsOf, Laws}
 use Rattle.history.proofs.Splits.{mode-split, limits-split, filter-split, clock-split, spell-split, switch-inside, switch-outside}
-use Rattle.history.proofs.Splits.{mode-zero-decides, reconnect-decides, reconnect-outside-decides-nothing, manual-decides}
+use Rattle.history.proofs.Splits.{mode-zero-decides, reconnect-decides, reconnect-outside-decides, manual-decides}
 use Rattle.history.proofs.Splits.{other-modes-decide-nothing, others-decide-nothing, inside-decides-nothing, stands-split, register-bits}
 use Rattle.history.proofs.Splits.{owed-split}
 use Rattle.history.proofs.Stretches.{others-unseen, in-force, in-force-limits, stretch-split, exceeded-split, run-split}
@@ -22,7 +22,7 @@ laws-of f =
       switchOutside = switch-outside f;
       modeZeroDecides = mode-zero-decides f;
       reconnectDecides = reconnect-decides f;
-      reconnectOutside = reconnect-outside-decides-nothing f;
+      reconnectOutside = reconnect-outside-decides f;
       manualDecides = manual-decides f;
       otherModesDecideNothing = other-modes-decide-nothing f;
       othersDecideNothing = others-decide-nothing f;

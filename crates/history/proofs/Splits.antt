@@ -203,9 +203,10 @@ pub switch-outside : (f : AnyFresh) (h : History) (v : ℕ) → ¬ InSpell h →
 unfolding switchOf
 switch-outside f h v n = rw (outside h n) (last-split (decides f) 1 h v)
 
--- only 'a remote reconnect ending a spell' decides
-pub reconnect-outside-decides-nothing : (f : AnyFresh) (h : History) → ¬ InSpell h → decides f (requested remoteReconnect) h ≡ none
-reconnect-outside-decides-nothing f h n = rw (outside h n)
+-- outside a spell a remote reconnect decides in modes 2 and 4 alone
+pub reconnect-outside-decides : (f : AnyFresh) (h : History) → ¬ InSpell h
+    → decides f (requested remoteReconnect) h ≡ given (among (2 ∷ 4 ∷ []) (modeOf f h)) 1
+reconnect-outside-decides f h n = rw (outside h n)
 
 -- the call that ends a spell is not inside it: 'mode 0', 'a remote reconnect ending a spell in mode 2 or 4 give 1', 'in another mode' 2
 pub mode-zero-decides : (f : AnyFresh) (h : History) → decides f (modeSet 0) h ≡ some 1

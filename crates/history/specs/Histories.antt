@@ -42,6 +42,10 @@ switchAfterEach f calls (c ∷ cs) =
     let all = calls ++ (c ∷ []) in
     builtInAccount f all .switch ∷ switchAfterEach f all cs
 
+-- the switch, the openings, and the codes of the disconnect log (log 3: lists are counted from 0)
+abbrev pub switchShows : Fresh → List Call → ℕ × ℕ × List ℕ
+switchShows f calls = let a = builtInAccount f calls in (a .switch, a .openings, codes (getD (a .logs) 2 []))
+
 -- alarms, their filter, errors, theirs
 abbrev pub registerValues : List Call → ℕ × ℕ × ℕ × ℕ
 registerValues calls = let a = builtInAccount (fresh 1 3 1 1 1000) calls in (a .alarms, a .alarmFilter, a .errors, a .errorFilter)
@@ -113,8 +117,15 @@ pub record Histories : Type 0 where
   pub reconnect-decides :
       map (λ m. switchAfterEach (fresh m 3 1 1 1000) [] (RemoteDisconnect ∷ RemoteReconnect ∷ [])) (1 ∷ 2 ∷ 3 ∷ 4 ∷ 5 ∷ 6 ∷ [])
       ≡ (0 ∷ 2 ∷ []) ∷ (0 ∷ 1 ∷ []) ∷ (0 ∷ 2 ∷ []) ∷ (0 ∷ 1 ∷ []) ∷ (0 ∷ 2 ∷ []) ∷ (0 ∷ 2 ∷ []) ∷ []
-  -- a remote reconnect that ends no spell decides nothing
-  pub reconnect-outside : switchAfterEach (fresh 1 3 1 1 1000) [] (RemoteReconnect ∷ ManualDisconnect ∷ RemoteReconnect ∷ []) ≡ 1 ∷ 2 ∷ 2 ∷ []
+  -- document 02, A1: in modes 2 and 4 'a remote reconnect now also moves 2 to 1', opened there by the limiter, and a Connected switch stays; 'The other
+  -- modes keep their row'
+  pub reconnect-outside :
+      map (λ m. switchAfterEach (fresh m 3 1 1 1000) [] (RemoteReconnect ∷ overSample ∷ RemoteReconnect ∷ RemoteReconnect ∷ [])) (1 ∷ 2 ∷ 3 ∷ 4 ∷ 5 ∷ 6 ∷ [])
+      ≡ (1 ∷ 2 ∷ 2 ∷ 2 ∷ []) ∷ (1 ∷ 2 ∷ 1 ∷ 1 ∷ []) ∷ (1 ∷ 2 ∷ 2 ∷ 2 ∷ []) ∷ (1 ∷ 2 ∷ 1 ∷ 1 ∷ []) ∷ (1 ∷ 2 ∷ 2 ∷ 2 ∷ []) ∷ (1 ∷ 2 ∷ 2 ∷ 2 ∷ []) ∷ []
+  -- document 02, A1: '.. after the holder has opened by key ..', '.. and logs 63', also by script 2; it is no opening
+  pub reconnect-from-ready :
+      switchShows (fresh 2 3 1 1 1000) (ManualDisconnect ∷ RemoteReconnect ∷ ManualDisconnect ∷ Script 2 ∷ [])
+      ≡ (1, 2, 60 ∷ 63 ∷ 60 ∷ 63 ∷ [])
   -- the mode at the time of the call counts, and a change of mode leaves the switch
   pub mode-at-the-call : switchAfterEach (fresh 1 3 1 1 1000) [] (RemoteDisconnect ∷ SetMode 2 ∷ RemoteReconnect ∷ SetMode 3 ∷ [])
       ≡ 0 ∷ 0 ∷ 1 ∷ 1 ∷ []

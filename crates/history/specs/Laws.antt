@@ -82,11 +82,11 @@ pub record LawsOf (f : AnyFresh) : Type 0 where
       (h : History)
       → InSpell h
       → decides f (requested remoteReconnect) h ≡ some (cond (among (2 ∷ 4 ∷ []) (modeOf f h)) 1 2)
-  -- '.. a remote reconnect ending a spell ..': one that ends none decides nothing
+  -- document 02, A1: 'In the account such a call outside a spell decides 1. The other modes keep their row': there it decides nothing
   pub reconnectOutside :
       (h : History)
       → ¬ InSpell h
-      → decides f (requested remoteReconnect) h ≡ none
+      → decides f (requested remoteReconnect) h ≡ given (among (2 ∷ 4 ∷ []) (modeOf f h)) 1
   -- '.. manual reconnect .. give 1; manual disconnect .. give 2': outside a spell
   pub manualDecides :
       (h : History)

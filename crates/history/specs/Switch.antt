@@ -50,11 +50,13 @@ firingDecides f h before after =
 
 -- what a call decides, `bySample` being what a sample's firings decide: '.. fresh, mode 0, manual reconnect, under firing in mode 5 or 6, and a remote
 -- reconnect ending a spell in mode 2 or 4 give 1; manual disconnect, over firing outside mode 0, and a remote reconnect ending a spell in another mode
--- give 2. Calls inside a spell decide nothing.'
+-- give 2. Calls inside a spell decide nothing.' Document 02, A1, of a remote reconnect in mode 2 or 4: 'In the account such a call outside a spell
+-- decides 1'
 abbrev pub decidesBy : AnyFresh → Option ℕ → Effect → History → Option ℕ
 decidesBy f bySample (sampled ps) h = cond (spell h) none bySample
 decidesBy f bySample (requested remoteDisconnect) h = none
-decidesBy f bySample (requested remoteReconnect) h = given (spell h) (cond (among (2 ∷ 4 ∷ []) (modeOf f h)) 1 2)
+decidesBy f bySample (requested remoteReconnect) h =
+    cond (spell h) (some (cond (among (2 ∷ 4 ∷ []) (modeOf f h)) 1 2)) (given (among (2 ∷ 4 ∷ []) (modeOf f h)) 1)
 decidesBy f bySample (requested manualDisconnect) h = given (not (spell h)) 2
 decidesBy f bySample (requested manualReconnect) h = given (not (spell h)) 1
 decidesBy f bySample (modeSet n) h = given (eqb n 0) 1

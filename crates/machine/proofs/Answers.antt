@@ -59,10 +59,10 @@ rows-listed (r ∷ rs) q m s =
     row-listed (lists q m r) (eqb s (r .from)) (r .to) (r .code) (eqb s 1) (decision rs q m s)
     ∙ ap (λ b. lists q m r || b) (rows-listed rs q m s)
 
--- rows b and c list the same modes
-same-modes : (a : Bool) → (a || (a || false)) ≡ a
-same-modes true = refl
-same-modes false = refl
+-- rows b and c list the same modes, and so do the two rows a
+same-modes : (a b : Bool) → (a || (a || b)) ≡ (a || b)
+same-modes true b = refl
+same-modes false b = refl
 
 -- rows a and d list the modes 1 to 6 between them; the Bools: the mode is 1, .., 6
 shared : (a b c d e f : Bool) → ((b || (d || false)) || ((a || (c || (e || (f || false)))) || false)) ≡ (a || (b || (c || (d || (e || (f || false))))))
@@ -79,8 +79,9 @@ shared false false false false false false = refl
 
 table-lists : (q : RequestCall) (m : ℕ) → listedBy switchTable (requestOf q) m ≡ among (listedModes q) m
 unfolding switchTable among
-table-lists remoteDisconnect m = same-modes (among (listedModes remoteDisconnect) m)
-table-lists remoteReconnect m = shared (eqb m 1) (eqb m 2) (eqb m 3) (eqb m 4) (eqb m 5) (eqb m 6)
+table-lists remoteDisconnect m = let x = among (listedModes remoteDisconnect) m in same-modes x false ∙ or-false x
+table-lists remoteReconnect m =
+    same-modes (among (2 ∷ 4 ∷ []) m) (among (1 ∷ 3 ∷ 5 ∷ 6 ∷ []) m || false) ∙ shared (eqb m 1) (eqb m 2) (eqb m 3) (eqb m 4) (eqb m 5) (eqb m 6)
 table-lists manualDisconnect m = or-false (among (listedModes manualDisconnect) m)
 table-lists manualReconnect m = or-false (among (listedModes manualReconnect) m)
 

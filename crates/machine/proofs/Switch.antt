@@ -4,7 +4,7 @@ use native.Mathlib.Omega.{arith}
 use mathlib.Core.Path.{_≡_, refl, ap, ap₂, _∙_}
 use mathlib.Core.Bool.{Bool, true, false, not, _&&_, _||_, cond, Bool·beq, and-not-self}
 use mathlib.Core.List.{List, [], _∷_, _++_, map, append-nil}
-use mathlib.Core.Option.{none as nothing}
+use mathlib.Core.Option.{none as nothing, some}
 use lib.Dec.{eqb, leb}
 use lib.IntN.{ℤ}
 use borrow.Author.Tests.{leb-true, eqb-true, eq-eqb}
@@ -90,9 +90,10 @@ decided-sample true a x u p = p
 decided-sample false true x u p = decided-given x two p
 decided-sample false false x u p = decided-given u one p
 
-decided-cond : (x : Bool) → OneOrTwo (cond x 1 2)
-decided-cond true = one
-decided-cond false = two
+decided-reconnect : (s x : Bool) {c : ℕ} → OneOrTwo c → OneOrTwo (otherwise (cond s (some (cond x 1 2)) (given x 1)) c)
+decided-reconnect true true p = one
+decided-reconnect true false p = two
+decided-reconnect false x p = decided-given x one p
 
 last-decided : (f : AnyFresh) (h : History) → OneOrTwo (last (decides f) 1 h)
 unfolding last
@@ -100,7 +101,7 @@ last-decided f [] = one
 last-decided f (sampled ps ∷ h) =
     decided-sample (spell h) (triedG f h ps) (not (eqb (modeOf f h) 0)) (triedH f h ps && among (5 ∷ 6 ∷ []) (modeOf f h)) (last-decided f h)
 last-decided f (requested remoteDisconnect ∷ h) = last-decided f h
-last-decided f (requested remoteReconnect ∷ h) = decided-given (spell h) (decided-cond (among (2 ∷ 4 ∷ []) (modeOf f h))) (last-decided f h)
+last-decided f (requested remoteReconnect ∷ h) = decided-reconnect (spell h) (among (2 ∷ 4 ∷ []) (modeOf f h)) (last-decided f h)
 last-decided f (requested manualDisconnect ∷ h) = decided-given (not (spell h)) two (last-decided f h)
 last-decided f (requested manualReconnect ∷ h) = decided-given (not (spell h)) one (last-decided f h)
 last-decided f (modeSet n ∷ h) = decided-given (eqb n 0) one (last-decided f h)
@@ -129,9 +130,9 @@ module _ (m : ℕ) (listed : within 1 6 m ≡ true) where
   remote-disconnect false two = rw listed
 
   remote-reconnect : (s x : Bool) → among (2 ∷ 4 ∷ []) m ≡ x → {c : ℕ} → OneOrTwo c
-      → orStay (answered request.RemoteReconnect m (cond s 0 c))
-      ≡ change (cond s 0 c) (otherwise (given s (cond x 1 2)) c) (cond (eqb (otherwise (given s (cond x 1 2)) c) 1) 63 59)
-  unfolding answered
+      → let to = otherwise (cond s (some (cond x 1 2)) (given x 1)) c in
+      orStay (answered request.RemoteReconnect m (cond s 0 c)) ≡ change (cond s 0 c) to (cond (eqb to 1) 63 59)
+  unfolding answered among
   remote-reconnect true true e p = rw (listed, e)
   remote-reconnect true false e p = rw (listed, e)
   remote-reconnect false true e one = rw (listed, e)

@@ -11,6 +11,6 @@ decide-spec =
     tie.close (tie.spec (λ c. search needs) (λ c κs. search needs) (λ c κs. search needs) (λ c. search needs) (λ c κs. search needs)
     (λ c. search needs) (λ c κs. search needs) (λ c. search needs) (λ c κs. search needs) (λ c. search needs) (λ c κs. search needs)
     (λ c. search needs) (λ c κs. search needs) (λ c. search answers) (λ c. search answers) (λ c. search answers) (λ c. search answers)
-    (λ c. search answers) (λ c. search answers) (λ c. absurd (omega arith)) (λ c. search answers)
-    (λ c. ⊎-elim (λ w. search answers) (λ w. search answers) (c .before .match3 .came)) (λ c. search answers) (λ c. search answers)
+    (λ c. search answers) (λ c. search answers) (λ c. search answers) (λ c. absurd (omega arith)) (λ c. search answers)
+    (λ c. ⊎-elim (λ w. search answers) (λ w. search answers) (c .before .match4 .came)) (λ c. search answers) (λ c. search answers)
     (λ c. search answers) (λ c. search answers) (λ c. search answers) (λ c. search answers))
