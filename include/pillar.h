@@ -6,8 +6,8 @@
  * A meter's state is its page of PILLAR_PAGE_SIZE bytes, which the caller
  * keeps. The core does no input or output. It keeps nothing between calls,
  * allocates nothing, and uses under 4 KiB of stack (measured on x86-64 in a
- * static program; no proof covers it). Two threads may call it at once on
- * pages of their own.
+ * static program; no proof covers it). Two threads may call it at once on pages
+ * and letters of their own.
  *
  * The archive has four functions: pillar_fresh, pillar_call, pillar_replay and
  * pillar_check. Each answers 0, or the number of a refusal. On a refusal every
@@ -17,11 +17,13 @@
  * rest of this header, names, offsets and inline functions, is not proved: the
  * gate compares it with what the archive writes and answers (tests/header).
  *
- * The caller gives, for each pointer, `length` bytes that may be read and, but
- * for a const pointer, written. The pointer is not null, even if the length
- * is 0, and the length is below 2^63.
+ * The caller gives, for each pointer with a length, that many bytes that may be
+ * read and, but for a const pointer, written. A `letter` is one byte that may be
+ * written and is not inside the page. No pointer is null, even if the length is
+ * 0, and a length is below 2^63.
  *
- * Names are those of DLMS and of 003, the Mx381 manual.
+ * Names are those of DLMS and of 003, the Mx381 manual. Letters of moves are
+ * those of document 01's table of the switch.
  */
 #ifndef PILLAR_H
 #define PILLAR_H
@@ -41,7 +43,7 @@ extern "C" {
  * change; minor, if something is added; else patch. A page bears no version:
  * one that is laid out otherwise is refused by its length or its pairs.
  */
-#define PILLAR_VERSION_MAJOR 1
+#define PILLAR_VERSION_MAJOR 2
 #define PILLAR_VERSION_MINOR 0
 #define PILLAR_VERSION_PATCH 0
 #define PILLAR_VERSION \
@@ -195,6 +197,23 @@ enum pillar_control_mode {
     PILLAR_CONTROL_MODE_6 = 6     /* as 3, and the limiter reconnects */
 };
 
+/*
+ * The letter of the move that a call made, as its ASCII byte: each with its
+ * control modes, and from where to where. g and h are the limiter's, made by a
+ * sample; a script makes the move of the request that it names.
+ */
+enum pillar_letter {
+    PILLAR_LETTER_NONE = 0, /* refused, nothing moved, or control mode 0 accepted */
+    PILLAR_LETTER_A = 97,   /* 'a' remote reconnect, 2 and 4: disconnected or ready to connected */
+    PILLAR_LETTER_B = 98,   /* 'b' remote disconnect, 1 to 6: connected to disconnected */
+    PILLAR_LETTER_C = 99,   /* 'c' remote disconnect, 1 to 6: ready to disconnected */
+    PILLAR_LETTER_D = 100,  /* 'd' remote reconnect, 1, 3, 5 and 6: disconnected to ready */
+    PILLAR_LETTER_E = 101,  /* 'e' manual reconnect, 1 to 6: ready to connected */
+    PILLAR_LETTER_F = 102,  /* 'f' manual disconnect, 1, 2 and 5: connected to ready */
+    PILLAR_LETTER_G = 103,  /* 'g' local disconnect, 1 to 6: connected to ready */
+    PILLAR_LETTER_H = 104   /* 'h' local reconnect, 5 and 6: ready to connected */
+};
+
 enum pillar_script {
     PILLAR_SCRIPT_REMOTE_DISCONNECT = 1,
     PILLAR_SCRIPT_REMOTE_RECONNECT = 2
@@ -287,9 +306,13 @@ uint32_t pillar_fresh(uint8_t *page, size_t length, uint32_t control_mode,
  * PILLAR_REFUSED_KIND, whatever the page holds. Then it answers
  * PILLAR_REFUSED_PAGE_LENGTH, .._PAGE_PAIRS, .._PAGE_UNSOUND, then the refusals
  * of the call. Each kind has an inline function below.
+ *
+ * Into *letter it stores the letter of the move that it made, one of enum
+ * pillar_letter: always, so that a refused call leaves PILLAR_LETTER_NONE there.
  */
 uint32_t pillar_call(uint8_t *page, size_t length, uint32_t kind, uint32_t n1,
-                     uint32_t n2, uint32_t n3, uint32_t n4, uint32_t n5);
+                     uint32_t n2, uint32_t n3, uint32_t n4, uint32_t n5,
+                     uint8_t *letter);
 
 /*
  * Runs a whole list of records of PILLAR_RECORD_SIZE bytes: the kind, then five
@@ -313,92 +336,105 @@ uint32_t pillar_check(const uint8_t *page, size_t length);
 /* ---- The fifteen calls by name -------------------------------------------
  *
  * Each is pillar_call with its kind, and answers as it does. Numbers go over
- * whole: a control mode of 256 is refused, and never taken for 0.
+ * whole: a control mode of 256 is refused, and never taken for 0. Those that can
+ * make a move with a letter (the sample, the requests, the script) store it as
+ * pillar_call does; the others never make one, also where control mode 0 closes
+ * the switch, and take no `letter`.
  */
 
 /* One second's power in watts; export is negative. */
-static inline uint32_t pillar_sample(uint8_t *page, size_t length, int32_t watts)
+static inline uint32_t pillar_sample(uint8_t *page, size_t length, int32_t watts, uint8_t *letter)
 {
-    return pillar_call(page, length, PILLAR_KIND_SAMPLE, (uint32_t)watts, 0, 0, 0, 0);
+    return pillar_call(page, length, PILLAR_KIND_SAMPLE, (uint32_t)watts, 0, 0, 0, 0, letter);
 }
 
 /* The network centre's requests. */
-static inline uint32_t pillar_remote_disconnect(uint8_t *page, size_t length)
+static inline uint32_t pillar_remote_disconnect(uint8_t *page, size_t length, uint8_t *letter)
 {
-    return pillar_call(page, length, PILLAR_KIND_REMOTE_DISCONNECT, 0, 0, 0, 0, 0);
+    return pillar_call(page, length, PILLAR_KIND_REMOTE_DISCONNECT, 0, 0, 0, 0, 0, letter);
 }
 
-static inline uint32_t pillar_remote_reconnect(uint8_t *page, size_t length)
+static inline uint32_t pillar_remote_reconnect(uint8_t *page, size_t length, uint8_t *letter)
 {
-    return pillar_call(page, length, PILLAR_KIND_REMOTE_RECONNECT, 0, 0, 0, 0, 0);
+    return pillar_call(page, length, PILLAR_KIND_REMOTE_RECONNECT, 0, 0, 0, 0, 0, letter);
 }
 
 /* The holder's, by the key. */
-static inline uint32_t pillar_manual_disconnect(uint8_t *page, size_t length)
+static inline uint32_t pillar_manual_disconnect(uint8_t *page, size_t length, uint8_t *letter)
 {
-    return pillar_call(page, length, PILLAR_KIND_MANUAL_DISCONNECT, 0, 0, 0, 0, 0);
+    return pillar_call(page, length, PILLAR_KIND_MANUAL_DISCONNECT, 0, 0, 0, 0, 0, letter);
 }
 
-static inline uint32_t pillar_manual_reconnect(uint8_t *page, size_t length)
+static inline uint32_t pillar_manual_reconnect(uint8_t *page, size_t length, uint8_t *letter)
 {
-    return pillar_call(page, length, PILLAR_KIND_MANUAL_RECONNECT, 0, 0, 0, 0, 0);
+    return pillar_call(page, length, PILLAR_KIND_MANUAL_RECONNECT, 0, 0, 0, 0, 0, letter);
 }
 
 static inline uint32_t pillar_set_control_mode(uint8_t *page, size_t length, uint32_t control_mode)
 {
-    return pillar_call(page, length, PILLAR_KIND_SET_CONTROL_MODE, control_mode, 0, 0, 0, 0);
+    uint8_t none;
+    return pillar_call(page, length, PILLAR_KIND_SET_CONTROL_MODE, control_mode, 0, 0, 0, 0, &none);
 }
 
 /* The threshold in watts, 0 or more; both durations in samples, 1 to 86400. */
 static inline uint32_t pillar_set_limiter(uint8_t *page, size_t length, int32_t threshold,
                                           uint32_t over_duration, uint32_t under_duration)
 {
+    uint8_t none;
     return pillar_call(page, length, PILLAR_KIND_SET_LIMITER, (uint32_t)threshold, over_duration,
-                       under_duration, 0, 0);
+                       under_duration, 0, 0, &none);
 }
 
 static inline uint32_t pillar_set_clock(uint8_t *page, size_t length, uint32_t seconds)
 {
-    return pillar_call(page, length, PILLAR_KIND_SET_CLOCK, seconds, 0, 0, 0, 0);
+    uint8_t none;
+    return pillar_call(page, length, PILLAR_KIND_SET_CLOCK, seconds, 0, 0, 0, 0, &none);
 }
 
 /* A code of enum pillar_event. */
 static inline uint32_t pillar_report_event(uint8_t *page, size_t length, uint32_t code)
 {
-    return pillar_call(page, length, PILLAR_KIND_REPORT_EVENT, code, 0, 0, 0, 0);
+    uint8_t none;
+    return pillar_call(page, length, PILLAR_KIND_REPORT_EVENT, code, 0, 0, 0, 0, &none);
 }
 
 /* A one hides its bit from later events; bits that are set stay set. */
 static inline uint32_t pillar_set_alarm_filter(uint8_t *page, size_t length, uint32_t filter)
 {
-    return pillar_call(page, length, PILLAR_KIND_SET_ALARM_FILTER, filter, 0, 0, 0, 0);
+    uint8_t none;
+    return pillar_call(page, length, PILLAR_KIND_SET_ALARM_FILTER, filter, 0, 0, 0, 0, &none);
 }
 
 static inline uint32_t pillar_set_error_filter(uint8_t *page, size_t length, uint32_t filter)
 {
-    return pillar_call(page, length, PILLAR_KIND_SET_ERROR_FILTER, filter, 0, 0, 0, 0);
+    uint8_t none;
+    return pillar_call(page, length, PILLAR_KIND_SET_ERROR_FILTER, filter, 0, 0, 0, 0, &none);
 }
 
 /* The ones of the mask are cleared. */
 static inline uint32_t pillar_clear_alarms(uint8_t *page, size_t length, uint32_t mask)
 {
-    return pillar_call(page, length, PILLAR_KIND_CLEAR_ALARMS, mask, 0, 0, 0, 0);
+    uint8_t none;
+    return pillar_call(page, length, PILLAR_KIND_CLEAR_ALARMS, mask, 0, 0, 0, 0, &none);
 }
 
 static inline uint32_t pillar_clear_errors(uint8_t *page, size_t length, uint32_t mask)
 {
-    return pillar_call(page, length, PILLAR_KIND_CLEAR_ERRORS, mask, 0, 0, 0, 0);
+    uint8_t none;
+    return pillar_call(page, length, PILLAR_KIND_CLEAR_ERRORS, mask, 0, 0, 0, 0, &none);
 }
 
 /* The log then holds one line, PILLAR_LOGGED_EVENT_LOG_CLEARED. */
 static inline uint32_t pillar_clear_log(uint8_t *page, size_t length, uint32_t log)
 {
-    return pillar_call(page, length, PILLAR_KIND_CLEAR_LOG, log, 0, 0, 0, 0);
+    uint8_t none;
+    return pillar_call(page, length, PILLAR_KIND_CLEAR_LOG, log, 0, 0, 0, 0, &none);
 }
 
-static inline uint32_t pillar_execute_script(uint8_t *page, size_t length, uint32_t script)
+static inline uint32_t pillar_execute_script(uint8_t *page, size_t length, uint32_t script,
+                                             uint8_t *letter)
 {
-    return pillar_call(page, length, PILLAR_KIND_EXECUTE_SCRIPT, script, 0, 0, 0, 0);
+    return pillar_call(page, length, PILLAR_KIND_EXECUTE_SCRIPT, script, 0, 0, 0, 0, letter);
 }
 
 /* ---- Reading off a page --------------------------------------------------

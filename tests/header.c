@@ -16,6 +16,9 @@ enum { ROOM = 2048 };
 
 static uint8_t page[ROOM];
 
+/* What the latest call has stored. */
+static uint8_t letter;
+
 #define PAGE page, PILLAR_PAGE_SIZE
 #define COUNT_OF(array) (sizeof(array) / sizeof(array)[0])
 
@@ -147,11 +150,11 @@ static void fields(void)
 
     /* A run of three bytes, and its end. */
     for (uint32_t i = 0; i < 0x010203; i++)
-        ACCEPTED(pillar_sample(PAGE, 0x7f414244));
+        ACCEPTED(pillar_sample(PAGE, 0x7f414244, &letter));
     FIELD(RUN, 0x010203, pillar_get_run(page));
     FIELD(CLOCK, 0xf9fafbfc + 0x010203, pillar_get_clock(page));
     for (uint32_t i = 0x010203; i < 0x015180; i++)
-        ACCEPTED(pillar_sample(PAGE, 0x7f414244));
+        ACCEPTED(pillar_sample(PAGE, 0x7f414244, &letter));
     FIELD(RUN, 0, pillar_get_run(page));
     FIELD(EXCEEDED, 1, pillar_get_exceeded(page));
     FIELD(OPENINGS, 1, pillar_get_openings(page));
@@ -162,7 +165,7 @@ static void fields(void)
     put(PILLAR_OFFSET_OPENINGS, 0x00ffffff);
     put(PILLAR_OFFSET_ALARM_REGISTER, 0xffffffff);
     put(PILLAR_OFFSET_ERROR_REGISTER, 0xffffffff);
-    ACCEPTED(pillar_remote_disconnect(PAGE));
+    ACCEPTED(pillar_remote_disconnect(PAGE, &letter));
     ACCEPTED(pillar_clear_alarms(PAGE, 0x01020304));
     ACCEPTED(pillar_clear_errors(PAGE, 0x11121314));
     FIELD(OPENINGS, 0x01000000, pillar_get_openings(page));
@@ -359,26 +362,26 @@ static void lines(void)
     ACCEPTED(pillar_set_clock(PAGE, 7));
     SAME(PILLAR_LOGGED_CLOCK_ADJUSTED_OLD_DATE_TIME, pillar_get_log_line(page, PILLAR_LOG_STANDARD, 2).code);
     SAME(PILLAR_LOGGED_CLOCK_ADJUSTED_NEW_DATE_TIME, latest(PILLAR_LOG_STANDARD));
-    ACCEPTED(pillar_remote_disconnect(PAGE));
+    ACCEPTED(pillar_remote_disconnect(PAGE, &letter));
     SAME(PILLAR_LOGGED_REMOTE_DISCONNECTION, latest(PILLAR_LOG_DISCONNECT));
-    ACCEPTED(pillar_remote_reconnect(PAGE));
+    ACCEPTED(pillar_remote_reconnect(PAGE, &letter));
     SAME(PILLAR_LOGGED_REMOTE_CONNECTION, latest(PILLAR_LOG_DISCONNECT));
-    ACCEPTED(pillar_manual_disconnect(PAGE));
+    ACCEPTED(pillar_manual_disconnect(PAGE, &letter));
     SAME(PILLAR_LOGGED_MANUAL_DISCONNECTION, latest(PILLAR_LOG_DISCONNECT));
-    ACCEPTED(pillar_manual_reconnect(PAGE));
+    ACCEPTED(pillar_manual_reconnect(PAGE, &letter));
     SAME(PILLAR_LOGGED_MANUAL_CONNECTION, latest(PILLAR_LOG_DISCONNECT));
     ACCEPTED(pillar_set_limiter(PAGE, 0, 1, 1));
     SAME(PILLAR_LOGGED_LIMITER_THRESHOLD_CHANGED, latest(PILLAR_LOG_DISCONNECT));
 
     fresh(PILLAR_CONTROL_MODE_6);
-    ACCEPTED(pillar_sample(PAGE, 1));
+    ACCEPTED(pillar_sample(PAGE, 1, &letter));
     SAME(PILLAR_LOGGED_LIMITER_THRESHOLD_EXCEEDED, pillar_get_log_line(page, PILLAR_LOG_DISCONNECT, 0).code);
     SAME(PILLAR_LOGGED_LOCAL_DISCONNECTION, latest(PILLAR_LOG_DISCONNECT));
-    ACCEPTED(pillar_sample(PAGE, 0));
+    ACCEPTED(pillar_sample(PAGE, 0, &letter));
     SAME(PILLAR_LOGGED_LIMITER_THRESHOLD_OK, pillar_get_log_line(page, PILLAR_LOG_DISCONNECT, 2).code);
     SAME(PILLAR_LOGGED_LOCAL_RECONNECTION, latest(PILLAR_LOG_DISCONNECT));
-    ACCEPTED(pillar_remote_disconnect(PAGE));
-    ACCEPTED(pillar_remote_reconnect(PAGE));
+    ACCEPTED(pillar_remote_disconnect(PAGE, &letter));
+    ACCEPTED(pillar_remote_reconnect(PAGE, &letter));
     SAME(PILLAR_LOGGED_DISCONNECTER_READY_FOR_MANUAL_RECONNECTION, latest(PILLAR_LOG_DISCONNECT));
     for (uint32_t log = 1; log <= PILLAR_LOGS; log++) {
         ACCEPTED(pillar_clear_log(PAGE, log));
@@ -419,20 +422,20 @@ static void control_modes(void)
         const struct rule *rule = &rules[i];
         fresh(rule->control_mode);
         STANDS(CONNECTED);
-        ACCEPTED(pillar_execute_script(PAGE, PILLAR_SCRIPT_REMOTE_DISCONNECT));
+        ACCEPTED(pillar_execute_script(PAGE, PILLAR_SCRIPT_REMOTE_DISCONNECT, &letter));
         STANDS(DISCONNECTED);
-        ACCEPTED(pillar_execute_script(PAGE, PILLAR_SCRIPT_REMOTE_RECONNECT));
+        ACCEPTED(pillar_execute_script(PAGE, PILLAR_SCRIPT_REMOTE_RECONNECT, &letter));
         stands(__LINE__, rule->remote_reconnect_to);
-        ACCEPTED(pillar_manual_reconnect(PAGE));
+        ACCEPTED(pillar_manual_reconnect(PAGE, &letter));
         STANDS(CONNECTED);
-        SAME(rule->manual_disconnect ? PILLAR_ACCEPTED : PILLAR_REFUSED_MODE_RULE, pillar_manual_disconnect(PAGE));
+        SAME(rule->manual_disconnect ? PILLAR_ACCEPTED : PILLAR_REFUSED_MODE_RULE, pillar_manual_disconnect(PAGE, &letter));
         if (rule->manual_disconnect)
             STANDS(READY_FOR_RECONNECTION);
-        ACCEPTED(pillar_manual_reconnect(PAGE));
+        ACCEPTED(pillar_manual_reconnect(PAGE, &letter));
         STANDS(CONNECTED);
-        ACCEPTED(pillar_sample(PAGE, 1));
+        ACCEPTED(pillar_sample(PAGE, 1, &letter));
         STANDS(READY_FOR_RECONNECTION);
-        ACCEPTED(pillar_sample(PAGE, 0));
+        ACCEPTED(pillar_sample(PAGE, 0, &letter));
         if (rule->local_reconnect)
             STANDS(CONNECTED);
         else
@@ -441,12 +444,163 @@ static void control_modes(void)
         STANDS(CONNECTED);
     }
     fresh(PILLAR_CONTROL_MODE_NONE);
-    SAME(PILLAR_REFUSED_MODE_RULE, pillar_remote_disconnect(PAGE));
-    SAME(PILLAR_REFUSED_MODE_RULE, pillar_remote_reconnect(PAGE));
-    SAME(PILLAR_REFUSED_MODE_RULE, pillar_manual_disconnect(PAGE));
-    SAME(PILLAR_REFUSED_MODE_RULE, pillar_manual_reconnect(PAGE));
-    ACCEPTED(pillar_sample(PAGE, 1));
+    SAME(PILLAR_REFUSED_MODE_RULE, pillar_remote_disconnect(PAGE, &letter));
+    SAME(PILLAR_REFUSED_MODE_RULE, pillar_remote_reconnect(PAGE, &letter));
+    SAME(PILLAR_REFUSED_MODE_RULE, pillar_manual_disconnect(PAGE, &letter));
+    SAME(PILLAR_REFUSED_MODE_RULE, pillar_manual_reconnect(PAGE, &letter));
+    ACCEPTED(pillar_sample(PAGE, 1, &letter));
     STANDS(CONNECTED);
+}
+
+/* ---- The letters --------------------------------------------------------- */
+
+/* A byte that no call stores. */
+enum { UNSTORED = 255 };
+
+/* Those of the table of the switch; the limiter's by a sample that makes it fire. */
+enum request {
+    REMOTE_DISCONNECT,
+    REMOTE_RECONNECT,
+    MANUAL_DISCONNECT,
+    MANUAL_RECONNECT,
+    LOCAL_DISCONNECT,
+    LOCAL_RECONNECT,
+    SCRIPT_DISCONNECT,
+    SCRIPT_RECONNECT,
+    REQUESTS
+};
+
+struct move {
+    uint32_t letter;
+    uint32_t request;
+    uint32_t control_modes;
+    uint32_t from;
+    uint32_t to;
+};
+
+#define MODE(n) (UINT32_C(1) << PILLAR_CONTROL_MODE_##n)
+#define MODES_1_TO_6 (MODE(1) | MODE(2) | MODE(3) | MODE(4) | MODE(5) | MODE(6))
+#define MOVE(letter, request, control_modes, from, to) \
+    {PILLAR_LETTER_##letter, request, control_modes, PILLAR_CONTROL_STATE_##from, PILLAR_CONTROL_STATE_##to}
+
+static const struct move moves[] = {
+    MOVE(A, REMOTE_RECONNECT, MODE(2) | MODE(4), DISCONNECTED, CONNECTED),
+    MOVE(A, REMOTE_RECONNECT, MODE(2) | MODE(4), READY_FOR_RECONNECTION, CONNECTED),
+    MOVE(B, REMOTE_DISCONNECT, MODES_1_TO_6, CONNECTED, DISCONNECTED),
+    MOVE(C, REMOTE_DISCONNECT, MODES_1_TO_6, READY_FOR_RECONNECTION, DISCONNECTED),
+    MOVE(D, REMOTE_RECONNECT, MODE(1) | MODE(3) | MODE(5) | MODE(6), DISCONNECTED, READY_FOR_RECONNECTION),
+    MOVE(E, MANUAL_RECONNECT, MODES_1_TO_6, READY_FOR_RECONNECTION, CONNECTED),
+    MOVE(F, MANUAL_DISCONNECT, MODE(1) | MODE(2) | MODE(5), CONNECTED, READY_FOR_RECONNECTION),
+    MOVE(G, LOCAL_DISCONNECT, MODES_1_TO_6, CONNECTED, READY_FOR_RECONNECTION),
+    MOVE(H, LOCAL_RECONNECT, MODE(5) | MODE(6), READY_FOR_RECONNECTION, CONNECTED),
+};
+
+static uint32_t answer_to(uint32_t request)
+{
+    switch (request) {
+    case REMOTE_DISCONNECT:
+        return pillar_remote_disconnect(PAGE, &letter);
+    case REMOTE_RECONNECT:
+        return pillar_remote_reconnect(PAGE, &letter);
+    case MANUAL_DISCONNECT:
+        return pillar_manual_disconnect(PAGE, &letter);
+    case MANUAL_RECONNECT:
+        return pillar_manual_reconnect(PAGE, &letter);
+    case LOCAL_DISCONNECT:
+        return pillar_sample(PAGE, 1, &letter);
+    case LOCAL_RECONNECT:
+        return pillar_sample(PAGE, 0, &letter);
+    case SCRIPT_DISCONNECT:
+        return pillar_execute_script(PAGE, PILLAR_SCRIPT_REMOTE_DISCONNECT, &letter);
+    default:
+        return pillar_execute_script(PAGE, PILLAR_SCRIPT_REMOTE_RECONNECT, &letter);
+    }
+}
+
+/* The request that a script names. */
+static uint32_t named_by(uint32_t request)
+{
+    if (request == SCRIPT_DISCONNECT)
+        return REMOTE_DISCONNECT;
+    return request == SCRIPT_RECONNECT ? (uint32_t)REMOTE_RECONNECT : request;
+}
+
+/* One request in a control mode and a control state: its answer, its letter and where the switch then stands. */
+static void letter_of(uint32_t request, uint32_t control_mode, uint32_t control_state)
+{
+    bool local = request == LOCAL_DISCONNECT || request == LOCAL_RECONNECT;
+    bool listed = false;
+    uint32_t made = PILLAR_LETTER_NONE;
+    uint32_t to = control_state;
+    for (size_t i = 0; i < COUNT_OF(moves); i++) {
+        const struct move *move = &moves[i];
+        if (move->request != named_by(request) || (move->control_modes >> control_mode & 1) == 0)
+            continue;
+        listed = true;
+        if (move->from == control_state) {
+            made = move->letter;
+            to = move->to;
+        }
+    }
+    fresh(control_mode);
+    page[PILLAR_OFFSET_CONTROL_STATE] = (uint8_t)control_state;
+    page[PILLAR_OFFSET_EXCEEDED] = request == LOCAL_RECONNECT;
+    letter = UNSTORED;
+    SAME(listed || local ? PILLAR_ACCEPTED : PILLAR_REFUSED_MODE_RULE, answer_to(request));
+    SAME(made, letter);
+    stands(__LINE__, to);
+}
+
+/* Every request in every control mode and control state; in control mode 0 the switch is connected. */
+static void requests(void)
+{
+    for (at = 0; at < REQUESTS; at++) {
+        letter_of(at, PILLAR_CONTROL_MODE_NONE, PILLAR_CONTROL_STATE_CONNECTED);
+        for (uint32_t mode = PILLAR_CONTROL_MODE_1; mode <= PILLAR_CONTROL_MODE_6; mode++)
+            for (uint32_t state = 0; state < 3; state++)
+                letter_of(at, mode, state);
+    }
+}
+
+/* The other calls store none, control mode 0 among them, which here closes the switch. */
+static void without_letter(void)
+{
+    for (at = PILLAR_KIND_SET_CONTROL_MODE; at <= PILLAR_KIND_CLEAR_LOG; at++) {
+        uint32_t one = at != PILLAR_KIND_SET_CONTROL_MODE;
+        fresh(PILLAR_CONTROL_MODE_1);
+        ACCEPTED(pillar_remote_disconnect(PAGE, &letter));
+        SAME(PILLAR_LETTER_B, letter);
+        ACCEPTED(pillar_call(PAGE, at, one, 1, 1, 0, 0, &letter));
+        SAME(PILLAR_LETTER_NONE, letter);
+        stands(__LINE__, one ? PILLAR_CONTROL_STATE_DISCONNECTED : PILLAR_CONTROL_STATE_CONNECTED);
+    }
+}
+
+/* A call that is refused, whatever for, leaves none where a letter stood. */
+static void letter_refused(int line, uint32_t refusal, uint32_t answer)
+{
+    same(line, "refusal", refusal, answer);
+    same(line, "letter of a refused call", PILLAR_LETTER_NONE, letter);
+    letter = PILLAR_LETTER_B;
+}
+
+#define LETTER_REFUSED(refusal, call) letter_refused(__LINE__, PILLAR_REFUSED_##refusal, call)
+
+static void refused_letters(void)
+{
+    fresh(PILLAR_CONTROL_MODE_3);
+    ACCEPTED(pillar_remote_disconnect(PAGE, &letter));
+    SAME(PILLAR_LETTER_B, letter);
+    LETTER_REFUSED(MODE_RULE, pillar_manual_disconnect(PAGE, &letter));
+    LETTER_REFUSED(SCRIPT, pillar_execute_script(PAGE, 3, &letter));
+    LETTER_REFUSED(CONTROL_MODE, pillar_call(PAGE, PILLAR_KIND_SET_CONTROL_MODE, 7, 0, 0, 0, 0, &letter));
+    LETTER_REFUSED(KIND, pillar_call(PAGE, PILLAR_KIND_EXECUTE_SCRIPT + 1, 0, 0, 0, 0, 0, &letter));
+    LETTER_REFUSED(PAGE_LENGTH, pillar_remote_reconnect(page, PILLAR_PAGE_SIZE - 1, &letter));
+    page[0] ^= 1;
+    LETTER_REFUSED(PAGE_PAIRS, pillar_remote_reconnect(PAGE, &letter));
+    page[0] ^= 1;
+    page[PILLAR_OFFSET_CONTROL_STATE] = 3;
+    LETTER_REFUSED(PAGE_UNSOUND, pillar_remote_reconnect(PAGE, &letter));
 }
 
 /* ---- Kinds and refusals -------------------------------------------------- */
@@ -456,7 +610,9 @@ static void kinds(void)
     static uint8_t record[PILLAR_RECORD_SIZE];
     for (at = 0; at < 300; at++) {
         bool known = at >= PILLAR_KIND_SAMPLE && at <= PILLAR_KIND_EXECUTE_SCRIPT;
-        SAME(known ? PILLAR_REFUSED_PAGE_LENGTH : PILLAR_REFUSED_KIND, pillar_call(page, 0, at, 0, 0, 0, 0, 0));
+        letter = UNSTORED;
+        SAME(known ? PILLAR_REFUSED_PAGE_LENGTH : PILLAR_REFUSED_KIND, pillar_call(page, 0, at, 0, 0, 0, 0, 0, &letter));
+        SAME(PILLAR_LETTER_NONE, letter);
     }
     for (at = 0; at < 256; at++) {
         record[0] = (uint8_t)at;
@@ -472,16 +628,16 @@ static void refusals(void)
     SAME(PILLAR_REFUSED_LIST_EMPTY, pillar_replay(page, 0, PAGE));
     SAME(PILLAR_REFUSED_CONTROL_MODE, pillar_set_control_mode(PAGE, 7));
     SAME(PILLAR_REFUSED_CONTROL_MODE, pillar_set_control_mode(PAGE, 256));
-    SAME(PILLAR_REFUSED_SCRIPT, pillar_execute_script(PAGE, 0));
-    SAME(PILLAR_REFUSED_SCRIPT, pillar_execute_script(PAGE, 3));
+    SAME(PILLAR_REFUSED_SCRIPT, pillar_execute_script(PAGE, 0, &letter));
+    SAME(PILLAR_REFUSED_SCRIPT, pillar_execute_script(PAGE, 3, &letter));
     SAME(PILLAR_REFUSED_THRESHOLD, pillar_set_limiter(PAGE, -1, 1, 1));
     SAME(PILLAR_REFUSED_THRESHOLD, pillar_set_limiter(PAGE, INT32_MIN, 1, 1));
     SAME(PILLAR_REFUSED_DURATION, pillar_set_limiter(PAGE, 0, 0, 1));
     SAME(PILLAR_REFUSED_DURATION, pillar_set_limiter(PAGE, 0, 1, 86401));
-    ACCEPTED(pillar_sample(PAGE, INT32_MIN));
-    ACCEPTED(pillar_sample(PAGE, -1));
+    ACCEPTED(pillar_sample(PAGE, INT32_MIN, &letter));
+    ACCEPTED(pillar_sample(PAGE, -1, &letter));
     STANDS(CONNECTED);
-    ACCEPTED(pillar_sample(PAGE, INT32_MAX));
+    ACCEPTED(pillar_sample(PAGE, INT32_MAX, &letter));
     STANDS(READY_FOR_RECONNECTION);
 
     page[0] ^= 1;
@@ -501,6 +657,9 @@ int main(void)
     codes();
     lines();
     control_modes();
+    requests();
+    without_letter();
+    refused_letters();
     kinds();
     refusals();
     if (differences != 0)

@@ -1,6 +1,6 @@
 /*
  * Document 01's worked example through the C interface, call by call and as
- * one list, what the page then holds, and wrong input.
+ * one list, the letters of its moves, what the page then holds, and wrong input.
  *
  *   rt staticlib pillar
  *   gcc -std=c99 -Wall -Wextra -pedantic -Iinclude -o target/pillar_demo examples/c/pillar_demo.c target/staticlib/libpillar.a
@@ -14,24 +14,31 @@
 struct call {
     uint32_t kind;
     uint32_t number;
+    uint8_t letter;
 };
 
-/* A negative power passes as two's complement. Script 3 and control mode 7 are refused. */
+/*
+ * Each with the letter that documents 01 and 02 give it. A negative power passes
+ * as two's complement. The third sample is the second over 3000, and opens. The
+ * samples not over end Exceeded where the switch is connected already. Script 3
+ * and control mode 7 are refused, and in control mode 0 every request is; mode 0
+ * itself connects without a letter.
+ */
 static const struct call calls[] = {
-    {PILLAR_KIND_SAMPLE, 3000},
-    {PILLAR_KIND_SAMPLE, 3001},
-    {PILLAR_KIND_SAMPLE, 3001},
-    {PILLAR_KIND_MANUAL_RECONNECT, 0},
-    {PILLAR_KIND_SAMPLE, 0},
-    {PILLAR_KIND_SAMPLE, (uint32_t)-5},
-    {PILLAR_KIND_SAMPLE, 0},
-    {PILLAR_KIND_REMOTE_DISCONNECT, 0},
-    {PILLAR_KIND_MANUAL_RECONNECT, 0},
-    {PILLAR_KIND_EXECUTE_SCRIPT, 3},
-    {PILLAR_KIND_EXECUTE_SCRIPT, PILLAR_SCRIPT_REMOTE_RECONNECT},
-    {PILLAR_KIND_SET_CONTROL_MODE, 7},
-    {PILLAR_KIND_SET_CONTROL_MODE, PILLAR_CONTROL_MODE_NONE},
-    {PILLAR_KIND_REMOTE_DISCONNECT, 0},
+    {PILLAR_KIND_SAMPLE, 3000, PILLAR_LETTER_NONE},
+    {PILLAR_KIND_SAMPLE, 3001, PILLAR_LETTER_NONE},
+    {PILLAR_KIND_SAMPLE, 3001, PILLAR_LETTER_G},
+    {PILLAR_KIND_MANUAL_RECONNECT, 0, PILLAR_LETTER_E},
+    {PILLAR_KIND_SAMPLE, 0, PILLAR_LETTER_NONE},
+    {PILLAR_KIND_SAMPLE, (uint32_t)-5, PILLAR_LETTER_NONE},
+    {PILLAR_KIND_SAMPLE, 0, PILLAR_LETTER_NONE},
+    {PILLAR_KIND_REMOTE_DISCONNECT, 0, PILLAR_LETTER_B},
+    {PILLAR_KIND_MANUAL_RECONNECT, 0, PILLAR_LETTER_NONE},
+    {PILLAR_KIND_EXECUTE_SCRIPT, 3, PILLAR_LETTER_NONE},
+    {PILLAR_KIND_EXECUTE_SCRIPT, PILLAR_SCRIPT_REMOTE_RECONNECT, PILLAR_LETTER_D},
+    {PILLAR_KIND_SET_CONTROL_MODE, 7, PILLAR_LETTER_NONE},
+    {PILLAR_KIND_SET_CONTROL_MODE, PILLAR_CONTROL_MODE_NONE, PILLAR_LETTER_NONE},
+    {PILLAR_KIND_REMOTE_DISCONNECT, 0, PILLAR_LETTER_NONE},
 };
 
 enum { CALLS = sizeof calls / sizeof calls[0] };
@@ -62,6 +69,19 @@ static void put_record(uint8_t *record, uint32_t kind, const uint32_t numbers[5]
 static void print_line(size_t position, uint32_t answer, const uint8_t *page)
 {
     printf("%zu %" PRIu32 " %u %" PRIu32 "\n", position, answer, (unsigned)pillar_get_control_state(page), pillar_get_openings(page));
+}
+
+/* Whether each call left the letter of its move. */
+static int lettered(const uint8_t *letters)
+{
+    int right = 1;
+    printf("letters:");
+    for (size_t i = 0; i < CALLS; i++) {
+        printf(" %c", letters[i] == PILLAR_LETTER_NONE ? '-' : letters[i]);
+        right &= letters[i] == calls[i].letter;
+    }
+    printf("\n");
+    return right;
 }
 
 /* Whether the reader takes the page, and the same calls as one list leave the same. */
@@ -108,33 +128,36 @@ static int refused(const char *what, uint32_t answer, uint32_t expected, const u
 int main(void)
 {
     uint8_t page[PILLAR_PAGE_SIZE] = {0};
+    uint8_t letters[CALLS];
     uint32_t answer = pillar_fresh(page, sizeof page, PILLAR_CONTROL_MODE_5, THRESHOLD, OVER_DURATION, UNDER_DURATION, CLOCK);
     print_line(1, answer, page);
     for (size_t i = 0; i < CALLS; i++) {
-        answer = pillar_call(page, sizeof page, calls[i].kind, calls[i].number, 0, 0, 0, 0);
+        answer = pillar_call(page, sizeof page, calls[i].kind, calls[i].number, 0, 0, 0, 0, &letters[i]);
         print_line(i + 2, answer, page);
     }
 
-    int right = replayed(page);
+    int right = lettered(letters);
+    right &= replayed(page);
     right &= held(page);
 
     uint8_t before[PILLAR_PAGE_SIZE];
+    uint8_t letter;
     const uint8_t not_fresh[PILLAR_RECORD_SIZE] = {PILLAR_KIND_REMOTE_DISCONNECT};
     const uint32_t unknown = PILLAR_KIND_EXECUTE_SCRIPT + 1;
     memcpy(before, page, sizeof page);
     right &= refused("fresh into a short buffer", pillar_fresh(page, sizeof page - 1, PILLAR_CONTROL_MODE_5, THRESHOLD, OVER_DURATION, UNDER_DURATION, CLOCK), PILLAR_REFUSED_BUFFER, page, before);
     right &= refused("a negative threshold", pillar_set_limiter(page, sizeof page, -1, OVER_DURATION, UNDER_DURATION), PILLAR_REFUSED_THRESHOLD, page, before);
     right &= refused("an event that is not listed", pillar_report_event(page, sizeof page, PILLAR_LOGGED_REMOTE_DISCONNECTION), PILLAR_REFUSED_EVENT_CODE, page, before);
-    right &= refused("call on a short page", pillar_remote_disconnect(page, sizeof page - 1), PILLAR_REFUSED_PAGE_LENGTH, page, before);
-    right &= refused("call of an unknown kind", pillar_call(page, sizeof page, unknown, 0, 0, 0, 0, 0), PILLAR_REFUSED_KIND, page, before);
-    right &= refused("call of an unknown kind on a short page", pillar_call(page, sizeof page - 1, unknown, 0, 0, 0, 0, 0), PILLAR_REFUSED_KIND, page, before);
+    right &= refused("call on a short page", pillar_remote_disconnect(page, sizeof page - 1, &letter), PILLAR_REFUSED_PAGE_LENGTH, page, before);
+    right &= refused("call of an unknown kind", pillar_call(page, sizeof page, unknown, 0, 0, 0, 0, 0, &letter), PILLAR_REFUSED_KIND, page, before);
+    right &= refused("call of an unknown kind on a short page", pillar_call(page, sizeof page - 1, unknown, 0, 0, 0, 0, 0, &letter), PILLAR_REFUSED_KIND, page, before);
     right &= refused("list without a byte", pillar_replay(before, 0, page, sizeof page), PILLAR_REFUSED_LIST_EMPTY, page, before);
     right &= refused("list that does not begin with fresh", pillar_replay(not_fresh, sizeof not_fresh, page, sizeof page), PILLAR_REFUSED_LIST_BAD, page, before);
 
     /* A pair of the directory, then the control mode. */
     page[0] ^= 1;
     memcpy(before, page, sizeof page);
-    right &= refused("call on a page with another pair", pillar_remote_disconnect(page, sizeof page), PILLAR_REFUSED_PAGE_PAIRS, page, before);
+    right &= refused("call on a page with another pair", pillar_remote_disconnect(page, sizeof page, &letter), PILLAR_REFUSED_PAGE_PAIRS, page, before);
     page[0] ^= 1;
     page[PILLAR_OFFSET_CONTROL_MODE] = 7;
     memcpy(before, page, sizeof page);

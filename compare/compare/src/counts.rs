@@ -3,7 +3,7 @@
 use crate::case::Case;
 use std::collections::BTreeMap;
 
-/// From this many calls on, a run must have met every answer and case.
+/// From this many calls on, a run must have met every answer, letter and case.
 pub const CALLS_FOR_EVERY_ANSWER: u64 = 100_000;
 
 /// What calls, fresh and the reader must have answered. 12 cannot be asked of
@@ -15,8 +15,14 @@ const ANSWERS: [u32; 13] = [0, 1, 2, 3, 4, 5, 6, 7, 8, 9, 10, 11, 13];
 /// writer refuse, and refused as no list.
 const REPLAY_ANSWERS: [u32; 7] = [0, 1, 5, 8, 100, 101, 102];
 
+/// The letters that calls must have answered.
+const LETTERS: [char; 8] = ['a', 'b', 'c', 'd', 'e', 'f', 'g', 'h'];
+
 /// How often each answer was given.
 pub type Answers = BTreeMap<u32, u64>;
+
+/// How often each letter was given.
+pub type Letters = BTreeMap<char, u64>;
 
 /// How often each case was met.
 pub type Cases = BTreeMap<Case, u64>;
@@ -30,6 +36,8 @@ pub struct Counts {
     /// Of calls, fresh and the reader.
     pub answers: Answers,
     pub replay_answers: Answers,
+    /// Of calls, none left out.
+    pub letters: Letters,
     /// Of calls.
     pub cases: Cases,
 }
@@ -41,6 +49,10 @@ impl Counts {
 
     pub fn count_replay_answer(&mut self, answer: u32) {
         *self.replay_answers.entry(answer).or_default() += 1;
+    }
+
+    pub fn count_letter(&mut self, letter: char) {
+        *self.letters.entry(letter).or_default() += 1;
     }
 
     pub fn count_case(&mut self, case: Case) {
@@ -67,6 +79,10 @@ impl Counts {
         if !never.is_empty() {
             lacking.push(format!("no replay answered {never}"));
         }
+        let never = missing(&self.letters, &LETTERS);
+        if !never.is_empty() {
+            lacking.push(format!("no call answered the letter {never}"));
+        }
         let never = Case::ALL
             .iter()
             .filter(|case| !self.cases.contains_key(case));
@@ -75,10 +91,10 @@ impl Counts {
     }
 }
 
-/// The demanded answers that were never given.
-fn missing(given: &Answers, demanded: &[u32]) -> String {
+/// The demanded answers or letters that were never given.
+fn missing<T: Ord + ToString>(given: &BTreeMap<T, u64>, demanded: &[T]) -> String {
     let missing = demanded.iter().filter(|answer| !given.contains_key(answer));
-    let missing: Vec<_> = missing.map(u32::to_string).collect();
+    let missing: Vec<_> = missing.map(T::to_string).collect();
     missing.join(", ")
 }
 
@@ -96,6 +112,7 @@ mod tests {
         for answer in [0, 1, 5, 8, 100, 101, 102] {
             counts.count_replay_answer(answer);
         }
+        ('a'..='h').for_each(|letter| counts.count_letter(letter));
         Case::ALL.iter().for_each(|&case| counts.count_case(case));
         counts
     }
@@ -127,6 +144,16 @@ mod tests {
             let mut counts = enough();
             counts.replay_answers.remove(&answer);
             let told = format!("no replay answered {answer}");
+            assert_eq!(counts.lacking(CALLS_FOR_EVERY_ANSWER), [told]);
+        }
+    }
+
+    #[test]
+    fn each_missing_letter_fails() {
+        for letter in LETTERS {
+            let mut counts = enough();
+            counts.letters.remove(&letter);
+            let told = format!("no call answered the letter {letter}");
             assert_eq!(counts.lacking(CALLS_FOR_EVERY_ANSWER), [told]);
         }
     }

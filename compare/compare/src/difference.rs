@@ -3,17 +3,19 @@
 use crate::field;
 use std::fmt;
 
-/// The answer of one side and the bytes it leaves.
+/// The answer of one side, a call's letter and the bytes it leaves.
 pub struct Outcome<'a> {
     pub answer: u32,
+    pub letter: Option<char>,
     pub bytes: &'a [u8],
 }
 
 #[derive(Debug)]
 pub struct Difference {
     what: String,
-    plain: u32,
-    pillar: u32,
+    /// Those of plain and of pillar.
+    answers: [u32; 2],
+    letters: [Option<char>; 2],
     byte: Option<Byte>,
     input: Vec<u8>,
 }
@@ -29,21 +31,24 @@ struct Byte {
 /// How many bytes of the input a report shows.
 const SHOWN: usize = 2048;
 
-/// Both sides must give the same answer and leave the same bytes. `input` is
-/// the page or the list that they were given, `what` says what was done.
+/// Both sides must give the same answer and letter and leave the same bytes.
+/// `input` is the page or the list that they were given, `what` says what was
+/// done.
 pub fn judge(
     plain: Outcome,
     pillar: Outcome,
     input: &[u8],
     what: impl FnOnce() -> String,
 ) -> Result<(), Box<Difference>> {
-    if plain.answer == pillar.answer && plain.bytes == pillar.bytes {
+    let answers = [plain.answer, pillar.answer];
+    let letters = [plain.letter, pillar.letter];
+    if answers[0] == answers[1] && letters[0] == letters[1] && plain.bytes == pillar.bytes {
         return Ok(());
     }
     Err(Box::new(Difference {
         what: what(),
-        plain: plain.answer,
-        pillar: pillar.answer,
+        answers,
+        letters,
         byte: first_differing(plain.bytes, pillar.bytes),
         input: input.to_vec(),
     }))
@@ -61,12 +66,28 @@ fn first_differing(plain: &[u8], pillar: &[u8]) -> Option<Byte> {
 impl Difference {
     /// One line, without the input.
     pub fn brief(&self) -> String {
-        let answers = format!("answers: plain {}, pillar {}", self.plain, self.pillar);
+        let answers = self.shown_answers();
         match &self.byte {
             None => format!("{}; {answers}; the bytes agree", self.what),
             Some(byte) => format!("{}; {answers}; {byte}", self.what),
         }
     }
+
+    /// The answers, and the letters where they differ.
+    fn shown_answers(&self) -> String {
+        let [plain, pillar] = self.answers;
+        let answers = format!("answers: plain {plain}, pillar {pillar}");
+        let [plain, pillar] = self.letters;
+        if plain == pillar {
+            return answers;
+        }
+        let [plain, pillar] = self.letters.map(shown_letter);
+        format!("{answers}; letters: plain {plain}, pillar {pillar}")
+    }
+}
+
+fn shown_letter(letter: Option<char>) -> String {
+    letter.map_or(String::from("none"), String::from)
 }
 
 impl fmt::Display for Byte {
@@ -87,7 +108,7 @@ impl fmt::Display for Byte {
 impl fmt::Display for Difference {
     fn fmt(&self, f: &mut fmt::Formatter) -> fmt::Result {
         writeln!(f, "  {}", self.what)?;
-        writeln!(f, "  answers: plain {}, pillar {}", self.plain, self.pillar)?;
+        writeln!(f, "  {}", self.shown_answers())?;
         match &self.byte {
             None => writeln!(f, "  the bytes agree")?,
             Some(byte) => writeln!(f, "  first differing {byte}")?,
@@ -103,5 +124,40 @@ impl fmt::Display for Difference {
             write!(f, "\n    ...")?;
         }
         Ok(())
+    }
+}
+
+#[cfg(test)]
+mod tests {
+    use super::*;
+
+    fn outcome(letter: Option<char>, bytes: &[u8]) -> Outcome<'_> {
+        Outcome {
+            answer: 0,
+            letter,
+            bytes,
+        }
+    }
+
+    #[test]
+    fn letters_and_bytes_are_judged() {
+        let judged = |letter, bytes: &[u8]| {
+            let plain = outcome(Some('b'), &[7; 40]);
+            let judged = judge(plain, outcome(letter, bytes), &[], || String::from("call"));
+            judged.map_err(|difference| difference.brief())
+        };
+        assert_eq!(judged(Some('b'), &[7; 40]), Ok(()));
+        let letters = "call; answers: plain 0, pillar 0; letters: plain b, pillar c";
+        let other = judged(Some('c'), &[7; 40]);
+        assert_eq!(other, Err(format!("{letters}; the bytes agree")));
+        let none = judged(None, &[7; 40]).unwrap_err();
+        assert!(none.contains("letters: plain b, pillar none"), "{none}");
+        let mut bytes = [7; 40];
+        bytes[33] = 1;
+        let byte = judged(Some('b'), &bytes).unwrap_err();
+        assert!(
+            byte.ends_with("byte 33 (switch): plain 0x07, pillar 0x01"),
+            "{byte}"
+        );
     }
 }

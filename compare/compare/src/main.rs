@@ -13,10 +13,12 @@ mod random;
 mod run;
 mod sides;
 
-use counts::{Answers, Counts};
+use counts::Counts;
 use options::{Options, USAGE};
 use planted::PLANTED;
 use run::{Found, Plan, run};
+use std::collections::BTreeMap;
+use std::fmt::Display;
 use std::process::ExitCode;
 
 /// A run against the stand-in says so: it shows nothing about the core.
@@ -88,6 +90,7 @@ fn find_planted(options: &Options) -> ExitCode {
 /// What was compared without a difference; too little of it is a failure.
 fn report(counts: &Counts, options: &Options) -> ExitCode {
     println!("answers {}", listed(&counts.answers));
+    println!("letters {}", listed(&counts.letters));
     println!(
         "lists replayed: {}, answers {}",
         counts.lists,
@@ -112,7 +115,7 @@ fn report(counts: &Counts, options: &Options) -> ExitCode {
     ExitCode::FAILURE
 }
 
-fn listed(answers: &Answers) -> String {
+fn listed<T: Display>(answers: &BTreeMap<T, u64>) -> String {
     let answers = answers.iter();
     let answers: Vec<_> = answers
         .map(|(answer, times)| format!("{answer}: {times}"))

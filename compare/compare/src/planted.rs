@@ -6,7 +6,7 @@ use plain::fault;
 
 type Run = fn(&Plan) -> Result<Counts, Box<Found>>;
 
-pub const PLANTED: [(&str, Run); 19] = [
+pub const PLANTED: [(&str, Run); 25] = [
     (
         "trips at power equal to threshold",
         run::<{ fault::TRIPS_AT_THRESHOLD }>,
@@ -76,5 +76,29 @@ pub const PLANTED: [(&str, Run); 19] = [
     (
         "logs 59 where a remote reconnect closes from Ready",
         run::<{ fault::LOGS_59_FROM_READY }>,
+    ),
+    (
+        "exchanges the letters b and c",
+        run::<{ fault::EXCHANGES_B_AND_C }>,
+    ),
+    (
+        "answers a letter for accepting mode 0",
+        run::<{ fault::LETTER_FOR_MODE_0 }>,
+    ),
+    (
+        "answers e for a manual reconnect that moves nothing",
+        run::<{ fault::LETTER_WITHOUT_MOVE }>,
+    ),
+    (
+        "hands on no letter from a script",
+        run::<{ fault::SCRIPTS_WITHOUT_LETTER }>,
+    ),
+    (
+        "hands on no letter from a sample",
+        run::<{ fault::SAMPLES_WITHOUT_LETTER }>,
+    ),
+    (
+        "answers e where a remote reconnect closes from Ready",
+        run::<{ fault::CLOSES_AS_E }>,
     ),
 ];

@@ -6,7 +6,7 @@ use crate::case::Case;
 use crate::counts::Counts;
 use crate::difference::{Difference, Outcome, judge};
 use pillar::{PAGE, Settings};
-use plain::Machine;
+use plain::{Letter, Machine};
 
 /// What buffers hold before they are written.
 const FILL: u8 = 0x5a;
@@ -48,10 +48,12 @@ impl<const FAULT: u8> Sides<FAULT> {
         let answer = plain_number(written);
         let outcome = Outcome {
             answer,
+            letter: None,
             bytes: &plain,
         };
         let theirs = Outcome {
             answer: pillar_number(pillar::fresh(&mut pillar, settings)),
+            letter: None,
             bytes: &pillar,
         };
         judge(outcome, theirs, &[], || {
@@ -69,21 +71,27 @@ impl<const FAULT: u8> Sides<FAULT> {
     /// One call on both sides.
     pub fn call(&mut self, call: Call) -> Compared<()> {
         let before = self.page;
-        let answer = plain_number(self.meter.command(call.kind, call.numbers));
-        let theirs = pillar_number(pillar::call(&mut self.page, call.kind, call.numbers));
+        let ours = self.meter.command(call.kind, call.numbers);
+        let theirs = pillar::call(&mut self.page, call.kind, call.numbers);
+        let (answer, letter) = (plain_number(ours), plain_letter(ours));
         let mut page = [FILL; PAGE];
         let written = plain_number(self.meter.write_page(&mut page));
         let plain = Outcome {
             answer: answer.max(written),
+            letter,
             bytes: &page,
         };
         let pillar = Outcome {
-            answer: theirs,
+            answer: pillar_number(theirs.answer),
+            letter: pillar_letter(theirs),
             bytes: &self.page,
         };
         self.counts.calls += 1;
         judge(plain, pillar, &before, || call.to_string())?;
         self.counts.count_answer(answer);
+        if let Some(letter) = letter {
+            self.counts.count_letter(letter);
+        }
         if let Some(case) = Case::of(call, &before) {
             self.counts.count_case(case);
         }
@@ -95,9 +103,14 @@ impl<const FAULT: u8> Sides<FAULT> {
     pub fn inspect(&mut self, bytes: &[u8], call: Call) -> Compared<bool> {
         let meter = Machine::<FAULT>::read_page(bytes);
         let answer = plain_number(meter.map(|_| ()));
-        let plain = Outcome { answer, bytes };
+        let plain = Outcome {
+            answer,
+            letter: None,
+            bytes,
+        };
         let pillar = Outcome {
             answer: pillar_number(pillar::check(bytes)),
+            letter: None,
             bytes,
         };
         self.counts.pages += 1;
@@ -109,12 +122,15 @@ impl<const FAULT: u8> Sides<FAULT> {
         let mut ours = bytes.to_vec();
         let mut theirs = bytes.to_vec();
         let answer = Machine::<FAULT>::call_on_page(&mut ours, call.kind, call.numbers);
+        let called = pillar::call(&mut theirs, call.kind, call.numbers);
         let plain = Outcome {
             answer: plain_number(answer),
+            letter: plain_letter(answer),
             bytes: &ours,
         };
         let pillar = Outcome {
-            answer: pillar_number(pillar::call(&mut theirs, call.kind, call.numbers)),
+            answer: pillar_number(called.answer),
+            letter: pillar_letter(called),
             bytes: &theirs,
         };
         judge(plain, pillar, bytes, || {
@@ -148,10 +164,12 @@ impl<const FAULT: u8> Sides<FAULT> {
         };
         let plain = Outcome {
             answer,
+            letter: None,
             bytes: &ours,
         };
         let pillar = Outcome {
             answer: their_answer,
+            letter: None,
             bytes: &theirs,
         };
         self.counts.lists += 1;
@@ -162,10 +180,12 @@ impl<const FAULT: u8> Sides<FAULT> {
         };
         let one_by_one = Outcome {
             answer: 0,
+            letter: None,
             bytes: page,
         };
         let pillar = Outcome {
             answer: their_answer,
+            letter: None,
             bytes: &theirs[..length.min(PAGE)],
         };
         judge(one_by_one, pillar, list, || {
@@ -185,8 +205,16 @@ fn fresh_meter<const FAULT: u8>(settings: Settings) -> Result<Machine<FAULT>, u8
     Machine::fresh(mode, threshold, over, under, clock)
 }
 
-fn plain_number(answer: Result<(), u8>) -> u32 {
+fn plain_number<T>(answer: Result<T, u8>) -> u32 {
     answer.err().unwrap_or(0).into()
+}
+
+fn plain_letter(answer: plain::Answer) -> Option<char> {
+    answer.ok().flatten().map(Letter::as_char)
+}
+
+fn pillar_letter(called: pillar::Called) -> Option<char> {
+    called.letter.map(pillar::Letter::as_char)
 }
 
 fn pillar_number(answer: pillar::Answer) -> u32 {

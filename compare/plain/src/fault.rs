@@ -35,7 +35,7 @@ pub const IGNORES_SAME_LIMITER: u8 = 13;
 pub const LOCAL_RECONNECT_IN_4: u8 = 14;
 /// A call on a page judges the page before the kind.
 pub const READS_BEFORE_KIND: u8 = 15;
-/// A remote reconnect leaves Ready in modes 2 and 4 too, as before A1.
+/// A remote reconnect leaves Ready in modes 2 and 4 too, where A1 moves it.
 pub const STAYS_READY: u8 = 16;
 /// A remote reconnect closes from Ready in modes 1, 3, 5 and 6 too.
 pub const CLOSES_IN_EVERY_MODE: u8 = 17;
@@ -43,3 +43,15 @@ pub const CLOSES_IN_EVERY_MODE: u8 = 17;
 pub const SCRIPT_STAYS_READY: u8 = 18;
 /// A remote reconnect that closes from Ready writes line 59.
 pub const LOGS_59_FROM_READY: u8 = 19;
+/// A remote disconnect from Connected answers c, from Ready b.
+pub const EXCHANGES_B_AND_C: u8 = 20;
+/// Accepting mode 0 answers a where it moves the switch.
+pub const LETTER_FOR_MODE_0: u8 = 21;
+/// A manual reconnect that moves nothing answers e.
+pub const LETTER_WITHOUT_MOVE: u8 = 22;
+/// A script does not hand on the letter of its call.
+pub const SCRIPTS_WITHOUT_LETTER: u8 = 23;
+/// A sample does not hand on g or h.
+pub const SAMPLES_WITHOUT_LETTER: u8 = 24;
+/// A remote reconnect that closes from Ready answers e, as the key does.
+pub const CLOSES_AS_E: u8 = 25;

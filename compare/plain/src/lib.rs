@@ -1,25 +1,27 @@
-//! The switching core of the pillar meter, written from document 01 and request
-//! A1 of document 02, but for one thing: they give the faults of a list no
-//! numbers, so those of [`Machine::replay`], 100 to 102, and the order of its
+//! The switching core of the pillar meter, written from document 01 and requests
+//! A1 and A2 of document 02, but for one thing: they give the faults of a list
+//! no numbers, so those of [`Machine::replay`], 100 to 102, and the order of its
 //! refusals are the C interface's (`pillar.h`).
 //!
 //! [`Meter`] is the record with its fifteen calls. Every call works in place
-//! and answers `Ok(())` or the number of its refusal; a refused call leaves
-//! the record as it was. [`Vectorised`] is the same with a test of the logs that
-//! is tuned for speed. The quotations in the comments are document 01's, but
-//! for those marked (02, A1).
+//! and answers the [`Letter`] of the move that it made, or none, or the number
+//! of its refusal; a refused call leaves the record as it was. [`Vectorised`] is
+//! the same with a test of the logs that is tuned for speed. The quotations in
+//! the comments are document 01's, but for those marked (02, A1) or (02, A2).
 
 mod events;
 #[cfg(feature = "faults")]
 pub mod fault;
 #[cfg(not(feature = "faults"))]
 mod fault;
+mod letter;
 mod list;
 mod log;
 mod meter;
 mod page;
 pub mod refusal;
 
+pub use letter::Letter;
 pub use list::RECORD;
 pub use log::{LINES, Log};
 pub use meter::{

@@ -1,7 +1,7 @@
 //! A whole list of calls: "records of 21 bytes: kind, five 32-bit big-endian
 //! numbers, unused ones ignored".
 
-use crate::meter::{Answer, Machine};
+use crate::meter::Machine;
 use crate::page::PAGE;
 use crate::refusal;
 
@@ -16,7 +16,7 @@ impl<const FAULT: u8, const VECTORS: bool> Machine<FAULT, VECTORS> {
     /// not fresh, then fresh's refusal, 102 if a later record is cut, and 8 if
     /// the buffer is short; the buffer then stays. 100 to 102 and this order
     /// are the C interface's.
-    pub fn replay(records: &[u8], page: &mut [u8]) -> Answer {
+    pub fn replay(records: &[u8], page: &mut [u8]) -> Result<(), u8> {
         if records.is_empty() {
             return Err(refusal::EMPTY_LIST);
         }

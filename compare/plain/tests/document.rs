@@ -1,7 +1,8 @@
 //! Document 01's worked example and page, and the rules around them.
 
 use plain::{
-    CONNECTED, DISCONNECT, DISCONNECTED, LONGEST, Meter, PAGE, READY, STANDARD, Vectorised, refusal,
+    CONNECTED, DISCONNECT, DISCONNECTED, LONGEST, Letter, Meter, PAGE, READY, STANDARD, Vectorised,
+    refusal,
 };
 
 const FRESH: (u32, [u32; 5]) = (0, [5, 3000, 2, 3, 1000]);
@@ -98,6 +99,14 @@ fn worked_example_gives_log_3() {
     let early = [65, 64, 61].map(|code| (1003, code));
     let late = [66, 62, 59, 63].map(|code| (1006, code));
     assert_eq!(lines, [&early[..], &late[..]].concat());
+}
+
+#[test]
+fn worked_example_gives_the_letters() {
+    let mut meter = example();
+    let answers = CALLS.map(|(kind, number)| meter.command(kind, [number, 0, 0, 0, 0]));
+    let letters = answers.map(|answer| answer.ok().flatten().map_or('-', Letter::as_char));
+    assert_eq!(String::from_iter(letters), "--ge---b--d---");
 }
 
 #[test]
@@ -328,37 +337,52 @@ fn a_call_on_a_page_judges_the_kind_first() {
     }
 }
 
-/// The switch table, each mode and position: answer, position, line.
+#[test]
+fn a_call_on_a_page_hands_on_the_letter() {
+    let mut page = page_of(&example());
+    let mut call = |kind, number| Meter::call_on_page(&mut page, kind, [number, 0, 0, 0, 0]);
+    assert_eq!(call(15, 1), Ok(Some(Letter::B)));
+    assert_eq!(call(2, 0), Ok(None));
+    assert_eq!(call(3, 0), Ok(Some(Letter::D)));
+    assert_eq!(call(6, 7), Err(refusal::MODE));
+    assert_eq!(call(5, 0), Ok(Some(Letter::E)));
+}
+
+/// A call's refusal or 0, the switch after it, its line and its letter.
+type Outcome = (u8, u8, Option<u8>, Option<char>);
+
+/// The switch table, each mode and position.
 #[test]
 fn requests_follow_the_switch_table() {
     for mode in 1..=6 {
         // "There a remote reconnect now also moves 2 to 1 and logs 63" (02, A1).
         let a = matches!(mode, 2 | 4);
         let f = matches!(mode, 1 | 2 | 5);
-        let back = if a { (CONNECTED, 63) } else { (READY, 59) };
-        let stay = |position| (0, position, None);
-        let go = |(position, line)| (0, position, Some(line));
+        let stay = |position| (0, position, None, None);
+        let go = |letter, position, line| (0, position, Some(line), Some(letter));
+        let close = go('a', CONNECTED, 63);
+        let back = if a { close } else { go('d', READY, 59) };
+        let from_ready = if a { close } else { stay(READY) };
         assert_eq!(request(mode, DISCONNECTED, 2), stay(DISCONNECTED));
-        assert_eq!(request(mode, CONNECTED, 2), go((DISCONNECTED, 62)));
-        assert_eq!(request(mode, READY, 2), go((DISCONNECTED, 62)));
-        assert_eq!(request(mode, DISCONNECTED, 3), go(back));
+        assert_eq!(request(mode, CONNECTED, 2), go('b', DISCONNECTED, 62));
+        assert_eq!(request(mode, READY, 2), go('c', DISCONNECTED, 62));
+        assert_eq!(request(mode, DISCONNECTED, 3), back);
         assert_eq!(request(mode, CONNECTED, 3), stay(CONNECTED));
-        let from_ready = if a { go(back) } else { stay(READY) };
         assert_eq!(request(mode, READY, 3), from_ready);
         assert_eq!(request(mode, DISCONNECTED, 5), stay(DISCONNECTED));
         assert_eq!(request(mode, CONNECTED, 5), stay(CONNECTED));
-        assert_eq!(request(mode, READY, 5), go((CONNECTED, 61)));
+        assert_eq!(request(mode, READY, 5), go('e', CONNECTED, 61));
         for position in [DISCONNECTED, CONNECTED, READY] {
             let expected = match (f, position) {
-                (false, _) => (refusal::MODE_RULE, position, None),
-                (true, CONNECTED) => go((READY, 60)),
+                (false, _) => (refusal::MODE_RULE, position, None, None),
+                (true, CONNECTED) => go('f', READY, 60),
                 (true, _) => stay(position),
             };
             assert_eq!(request(mode, position, 4), expected);
         }
     }
     for kind in 2..=5 {
-        assert_eq!(request(0, CONNECTED, kind), (2, CONNECTED, None));
+        assert_eq!(request(0, CONNECTED, kind), (2, CONNECTED, None, None));
     }
 }
 
@@ -377,19 +401,49 @@ fn scripts_are_the_calls_they_name() {
     }
 }
 
-fn request(mode: u8, switch: u8, kind: u32) -> (u8, u8, Option<u8>) {
+/// "Accepting mode 0 sets switch 1 and, if it was not 1, logs 63."; "accepting
+/// mode 0 answers none" (02, A2)
+#[test]
+fn mode_0_closes_without_a_letter() {
+    for mode in 1..=6 {
+        for position in [DISCONNECTED, CONNECTED, READY] {
+            let line = (position != CONNECTED).then_some(63);
+            assert_eq!(call(mode, position, 6, 0), (0, CONNECTED, line, None));
+            let other = mode % 6 + 1;
+            let stays = (0, position, None, None);
+            assert_eq!(call(mode, position, 6, other.into()), stays);
+            let refused = (refusal::MODE, position, None, None);
+            assert_eq!(call(mode, position, 6, 7), refused);
+        }
+    }
+}
+
+/// "then g is tried", "then h is tried"; their letters come with the sample.
+#[test]
+fn samples_hand_on_g_and_h() {
+    for mode in 0..=6 {
+        let mut meter = Meter::fresh(mode, 10, 2, 2, 0).unwrap();
+        let letters = [11, 11, 11, 10, 10, 10].map(|power| meter.sample(power).unwrap());
+        let g = (mode != 0).then_some(Letter::G);
+        let h = (mode >= 5).then_some(Letter::H);
+        assert_eq!(letters, [None, g, None, None, h, None], "mode {mode}");
+    }
+}
+
+fn request(mode: u8, switch: u8, kind: u32) -> Outcome {
     call(mode, switch, kind, 0)
 }
 
-fn call(mode: u8, switch: u8, kind: u32, number: u32) -> (u8, u8, Option<u8>) {
+fn call(mode: u8, switch: u8, kind: u32, number: u32) -> Outcome {
     let mut meter = example();
     meter.mode = mode;
     meter.switch = switch;
-    let answer = meter.command(kind, [number, 0, 0, 0, 0]).err().unwrap_or(0);
+    let answer = meter.command(kind, [number, 0, 0, 0, 0]);
     let opened = switch == CONNECTED && meter.switch != CONNECTED;
     assert_eq!(meter.openings, opened.into());
     let line = meter.logs[DISCONNECT].lines().last().map(|line| line.1);
-    (answer, meter.switch, line)
+    let letter = answer.ok().flatten().map(Letter::as_char);
+    (answer.err().unwrap_or(0), meter.switch, line, letter)
 }
 
 #[test]

@@ -2,7 +2,7 @@
 //! loops as the proved core's.
 
 use crate::side::{Call, Calls, Page, Side};
-use plain::{Answer, Faultless};
+use plain::Faultless;
 use std::hint::black_box;
 
 /// Where the page has the last byte of the clock.
@@ -78,6 +78,6 @@ impl<const VECTORS: bool> Side for Plain<VECTORS> {
     }
 }
 
-fn number(answer: Answer) -> u32 {
+fn number<T>(answer: Result<T, u8>) -> u32 {
     answer.err().unwrap_or(0).into()
 }

@@ -38,7 +38,7 @@ impl Side for Proved {
     }
 
     fn call_on_page(&self, page: &mut Page, call: Call, rounds: u32) -> u32 {
-        let answer = |_| number(pillar::call(black_box(page), call.kind, call.numbers));
+        let answer = |_| number(pillar::call(black_box(page), call.kind, call.numbers).answer);
         (0..rounds).map(answer).sum()
     }
 

@@ -12,6 +12,8 @@ use Rattle.calls.specs.declared.Call.the-variants.{SetLimiter, SetClock,
 use Rattle.calls.specs.declared.Call.the-variants.{Script}
 use Rattle.calls.specs.declared.Answer.{Answer}
 use Rattle.calls.specs.declared.Answer.the-variants.{Accepted, Refused}
+use Rattle.calls.specs.declared.Letter.{Letter}
+use Rattle.calls.specs.declared.Letter.the-variants.{A, B, C, D, E, F, G, H, None}
 use Rattle.calls.specs.declared.Command.{Command}
 use Rattle.calls.specs.declared.Parsed.{Parsed}
 use Rattle.calls.specs.declared.Parsed.the-variants.{Ok, NoKind}
@@ -20,6 +22,18 @@ use Rattle.calls.specs.declared.Parsed.the-variants.{Ok, NoKind}
 abbrev pub answerNumber : Answer → ℕ
 answerNumber Accepted = 0
 answerNumber (Refused n) = n
+
+-- document 02, A2: 'The centre's screen shows the transition by its letter': its byte in ASCII, 0 for none
+abbrev pub letterByte : Letter → ℕ
+letterByte A = 97
+letterByte B = 98
+letterByte C = 99
+letterByte D = 100
+letterByte E = 101
+letterByte F = 102
+letterByte G = 103
+letterByte H = 104
+letterByte None = 0
 
 -- the number of a call's kind in document 01's list
 abbrev pub kindOf : Call → ℕ

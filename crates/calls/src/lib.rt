@@ -1,6 +1,7 @@
-// The calls that a meter takes, its answers, and the reading of a command: a kind and five numbers.
+// The calls that a meter takes, its answers with the letter of a move, and the reading of a command: a
+// kind and five numbers.
 ghost use mathlib.Core.Path.{_≡_};
-ghost use Rattle.calls.specs.Calls.{answerNumber, signedOf, callOf};
+ghost use Rattle.calls.specs.Calls.{answerNumber, letterByte, signedOf, callOf};
 ghost use Rattle.calls.specs.Laws.{Laws};
 
 // A call with its numbers, which stay 32 bits wide until they are judged.
@@ -42,6 +43,39 @@ impl Answer {
         match self {
             Answer::Accepted => 0,
             Answer::Refused(number) => number,
+        }
+    }
+}
+
+// The move of the switch that a call made, by its letter in the switch table.
+pub enum Letter {
+    A,
+    B,
+    C,
+    D,
+    E,
+    F,
+    G,
+    H,
+    // The call was refused, or moved nothing, or was the acceptance of mode 0.
+    None,
+}
+
+impl Letter {
+    // The letter's byte in ASCII, and 0 for none.
+    pub fn byte(self) -> u8
+        ensures { λ r. ⌜ r ≡ letterByte self ⌝ }
+    {
+        match self {
+            Letter::A => b'a',
+            Letter::B => b'b',
+            Letter::C => b'c',
+            Letter::D => b'd',
+            Letter::E => b'e',
+            Letter::F => b'f',
+            Letter::G => b'g',
+            Letter::H => b'h',
+            Letter::None => 0,
         }
     }
 }

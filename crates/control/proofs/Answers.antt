@@ -1,6 +1,6 @@
 -- What the switch table's rows answer, in the shape of the code's `match`.
 use mathlib.Core.Path.{_≡_, refl}
-use mathlib.Core.Bool.{Bool, true, false, _||_, cond, and-false, or-false}
+use mathlib.Core.Bool.{Bool, true, false, _||_, cond, and-false}
 use mathlib.Core.List.{[], _∷_}
 use Prim.Native.Nat.{ℕ, zero, suc, _<_, _≤_}
 use native.Mathlib.Omega.{arith}
@@ -9,6 +9,8 @@ use borrow.Author.Tests.{ltb-true, ltb-false, lt-leb, ne-eqb}
 use Rattle.base.specs.Tests.{among, within}
 use Rattle.base.proofs.Bools.{by-test}
 use Rattle.base.proofs.Tests.{tests, above-leb}
+use Rattle.calls.specs.declared.Letter.{Letter}
+use Rattle.calls.specs.declared.Letter.the-variants.{A, B, C, D, E, F, G, H}
 use Rattle.control.specs.declared.Request.{Request}
 use Rattle.control.specs.declared.Request.the-variants.{RemoteDisconnect, RemoteReconnect, ManualDisconnect, ManualReconnect, LocalDisconnect}
 use Rattle.control.specs.declared.Request.the-variants.{LocalReconnect}
@@ -19,16 +21,16 @@ use Rattle.control.specs.Control.{orStay, decision}
 use Rattle.control.proofs.Moves.{outside}
 
 -- what `from` ensures
-abbrev from : ℕ → ℕ → ℕ → ℕ → Decision
-from start s t n = cond (eqb s start) (Move t n (eqb s 1)) Stay
+abbrev from : ℕ → ℕ → ℕ → ℕ → Letter → Decision
+from start s t n x = cond (eqb s start) (Move t n (eqb s 1) x) Stay
 
 abbrev inListedMode : Request → ℕ → ℕ → Decision
-inListedMode RemoteReconnect m s = cond (among (2 ∷ 4 ∷ []) m) (cond (among (0 ∷ 2 ∷ []) s) (Move 1 63 (eqb s 1)) Stay) (from 0 s 2 59)
-inListedMode RemoteDisconnect m s = cond (within 1 2 s) (Move 0 62 (eqb s 1)) Stay
-inListedMode ManualReconnect m s = from 2 s 1 61
-inListedMode ManualDisconnect m s = cond (eqb m 5 || within 1 2 m) (from 1 s 2 60) NotListed
-inListedMode LocalDisconnect m s = from 1 s 2 64
-inListedMode LocalReconnect m s = cond (within 5 6 m) (from 2 s 1 69) NotListed
+inListedMode RemoteReconnect m s = cond (among (2 ∷ 4 ∷ []) m) (cond (among (0 ∷ 2 ∷ []) s) (Move 1 63 (eqb s 1) A) Stay) (from 0 s 2 59 D)
+inListedMode RemoteDisconnect m s = cond (eqb s 1) (Move 0 62 (eqb s 1) B) (from 2 s 0 62 C)
+inListedMode ManualReconnect m s = from 2 s 1 61 E
+inListedMode ManualDisconnect m s = cond (eqb m 5 || within 1 2 m) (from 1 s 2 60 F) NotListed
+inListedMode LocalDisconnect m s = from 1 s 2 64 G
+inListedMode LocalReconnect m s = cond (within 5 6 m) (from 2 s 1 69 H) NotListed
 
 unfoldable pub answered : Request → ℕ → ℕ → Decision
 answered q m s = cond (within 1 6 m) (inListedMode q m s) NotListed
@@ -43,29 +45,23 @@ at P zero h m b = absurd (omega arith)
 at P (suc k) h m b =
     by-test (ltb m k) (λ e. at P k (h .0) m (ltb-true m k e)) (λ e. let z : m ≡ k = omega (arith, ltb-false m k e) in rw z (h .1))
 
--- a remote disconnect has two rows, from 1 and from 2, and so has a remote reconnect in modes 2 and 4, from 0 and from 2
-two-rows : (a b w o : Bool) (t n : ℕ) → a || b ≡ w → cond a (Move t n o) (orStay (cond b (Move t n o) Stay)) ≡ cond w (Move t n o) Stay
-two-rows true b w o t n e = rw (← e)
-two-rows false true w o t n e = rw (← e)
-two-rows false false w o t n e = rw (← e)
+-- a remote disconnect has two rows, from 1 and from 2; so has a remote reconnect in modes 2 and 4, from 0 and from 2, with one letter
+two-rows : (a b o : Bool) (t n : ℕ) (x y : Letter)
+    → cond a (Move t n o x) (orStay (cond b (Move t n o y) Stay)) ≡ cond a (Move t n o x) (cond b (Move t n o y) Stay)
+two-rows true b o t n x y = refl
+two-rows false true o t n x y = refl
+two-rows false false o t n x y = refl
 
-one-or-two : (s : ℕ) → eqb s 1 || eqb s 2 ≡ within 1 2 s
-one-or-two zero = refl
-one-or-two (suc zero) = refl
-one-or-two (suc (suc zero)) = refl
-one-or-two (suc (suc (suc s))) =
-    let n : ℕ = suc (suc (suc s)) in
-    simp (ne-eqb n 1 (λ e. omega arith), ne-eqb n 2 (λ e. omega arith), lt-leb n 2 (omega arith), and-false)
-
-zero-or-two : (s : ℕ) → eqb s 0 || eqb s 2 ≡ among (0 ∷ 2 ∷ []) s
-unfolding among
-zero-or-two s = simp or-false
+one-letter : (a b o : Bool) (t n : ℕ) (x : Letter) → cond a (Move t n o x) (orStay (cond b (Move t n o x) Stay)) ≡ cond (a || (b || false)) (Move t n o x) Stay
+one-letter true b o t n x = refl
+one-letter false true o t n x = refl
+one-letter false false o t n x = refl
 
 -- modes 0 to 6, by computing
 computed : (q : Request) (s : ℕ) → Below 7 (λ m. decision switchTable q m s ≡ answered q m s)
 unfolding decision switchTable among answered
-computed RemoteDisconnect s = search (two-rows, one-or-two s) depth 9
-computed RemoteReconnect s = search (two-rows, zero-or-two s) depth 9
+computed RemoteDisconnect s = search two-rows depth 9
+computed RemoteReconnect s = search one-letter depth 9
 computed ManualDisconnect s = search
 computed ManualReconnect s = search
 computed LocalDisconnect s = search

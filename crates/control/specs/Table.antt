@@ -1,13 +1,11 @@
 -- The switch table of document 01, as data.
 use Prim.Native.Nat.{ℕ}
 use mathlib.Core.List.{List, [], _∷_}
+use Rattle.calls.specs.declared.Letter.{Letter}
+use Rattle.calls.specs.declared.Letter.the-variants.{A, B, C, D, E, F, G, H}
 use Rattle.control.specs.declared.Request.{Request}
 use Rattle.control.specs.declared.Request.the-variants.{RemoteDisconnect, RemoteReconnect, ManualDisconnect, ManualReconnect, LocalDisconnect}
 use Rattle.control.specs.declared.Request.the-variants.{LocalReconnect}
-
--- the letters of the moves
-pub data Letter : Type 0 where
-  a b c d e f g h : Letter
 
 -- a row: 'Move | Modes | From → to | Line in log 3'
 pub record SwitchRow : Type 0 where
@@ -30,13 +28,13 @@ oneToSix = 1 ∷ 2 ∷ 3 ∷ 4 ∷ 5 ∷ 6 ∷ []
 -- logs 63', there being modes 2 and 4; A2: 'The new move of A1 bears the letter a'
 unfoldable pub switchTable : List SwitchRow
 switchTable =
-    switchRow a RemoteReconnect (2 ∷ 4 ∷ []) 0 1 63
-    ∷ switchRow a RemoteReconnect (2 ∷ 4 ∷ []) 2 1 63
-    ∷ switchRow d RemoteReconnect (1 ∷ 3 ∷ 5 ∷ 6 ∷ []) 0 2 59
-    ∷ switchRow b RemoteDisconnect oneToSix 1 0 62
-    ∷ switchRow c RemoteDisconnect oneToSix 2 0 62
-    ∷ switchRow e ManualReconnect oneToSix 2 1 61
-    ∷ switchRow f ManualDisconnect (1 ∷ 2 ∷ 5 ∷ []) 1 2 60
-    ∷ switchRow g LocalDisconnect oneToSix 1 2 64
-    ∷ switchRow h LocalReconnect (5 ∷ 6 ∷ []) 2 1 69
+    switchRow A RemoteReconnect (2 ∷ 4 ∷ []) 0 1 63
+    ∷ switchRow A RemoteReconnect (2 ∷ 4 ∷ []) 2 1 63
+    ∷ switchRow D RemoteReconnect (1 ∷ 3 ∷ 5 ∷ 6 ∷ []) 0 2 59
+    ∷ switchRow B RemoteDisconnect oneToSix 1 0 62
+    ∷ switchRow C RemoteDisconnect oneToSix 2 0 62
+    ∷ switchRow E ManualReconnect oneToSix 2 1 61
+    ∷ switchRow F ManualDisconnect (1 ∷ 2 ∷ 5 ∷ []) 1 2 60
+    ∷ switchRow G LocalDisconnect oneToSix 1 2 64
+    ∷ switchRow H LocalReconnect (5 ∷ 6 ∷ []) 2 1 69
     ∷ []

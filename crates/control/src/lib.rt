@@ -6,6 +6,8 @@ ghost use lib.Dec.{eqb};
 ghost use Rattle.control.specs.Table.{switchTable};
 ghost use Rattle.control.specs.Control.{decision, modeDecision, movedTo, inMode, soundControl};
 ghost use Rattle.control.specs.NearMisses.{NearMisses};
+ghost use Rattle.control.specs.ByMode.{ByMode};
+use calls::Letter;
 
 pub enum Request {
     RemoteDisconnect,
@@ -17,8 +19,14 @@ pub enum Request {
 }
 
 pub enum Decision {
-    // The next state, the code of the line in the disconnect log, and whether supply opens.
-    Move { to: u8, code: u8, opens: bool },
+    // The next state, the code of the line in the disconnect log, whether supply opens, and the move's
+    // letter.
+    Move {
+        to: u8,
+        code: u8,
+        opens: bool,
+        letter: Letter,
+    },
     // The mode is listed for the request, and the switch stays.
     Stay,
     // The mode is not listed for the request: refusal 2.
@@ -32,54 +40,63 @@ pub struct Control {
 }
 
 // A move out of a state: it opens the supply if it leaves state 1.
-fn leave(state: u8, to: u8, code: u8) -> Decision
-    ensures { λ r. ⌜ r ≡ Decision.Move to code (eqb state 1) ⌝ }
+fn leave(state: u8, to: u8, code: u8, letter: Letter) -> Decision
+    ensures { λ r. ⌜ r ≡ Decision.Move to code (eqb state 1) letter ⌝ }
 {
     Decision::Move {
         to,
         code,
         opens: state == 1,
+        letter,
     }
 }
 
 // A move from one state: in any other the switch stays.
-fn move_from(start: u8, state: u8, to: u8, code: u8) -> Decision
-    ensures { λ r. ⌜ r ≡ cond (eqb state start) (Decision.Move to code (eqb state 1)) Decision.Stay ⌝ }
+fn move_from(start: u8, state: u8, to: u8, code: u8, letter: Letter) -> Decision
+    ensures { λ r. ⌜ r ≡ cond (eqb state start) (Decision.Move to code (eqb state 1) letter) Decision.Stay ⌝ }
 {
     if state == start {
-        leave(state, to, code)
+        leave(state, to, code, letter)
     } else {
         Decision::Stay
+    }
+}
+
+// A remote disconnect has two rows: from state 1 and from state 2.
+fn disconnect(state: u8) -> Decision
+    ensures { λ r. ⌜ r ≡ cond (eqb state 1) (Decision.Move 0 62 (eqb state 1) Letter.B) (cond (eqb state 2) (Decision.Move 0 62 (eqb state 1) Letter.C) Decision.Stay) ⌝ }
+{
+    if state == 1 {
+        leave(state, 0, 62, Letter::B)
+    } else {
+        move_from(2, state, 0, 62, Letter::C)
     }
 }
 
 // The answer to a request in a mode and a state: what the rows of the switch table give.
 pub fn decide(request: Request, mode: u8, state: u8) -> Decision
     ensures { λ r. ⌜ r ≡ decision switchTable request mode state ⌝ }
+    ensures by_mode { λ _. ⌜ ByMode ⌝ }
 {
     match mode {
         1..=6 => match request {
             Request::RemoteReconnect => match mode {
                 // Two rows: from state 0 and from state 2.
                 2 | 4 => match state {
-                    0 | 2 => leave(state, 1, 63),
+                    0 | 2 => leave(state, 1, 63, Letter::A),
                     _ => Decision::Stay,
                 },
-                _ => move_from(0, state, 2, 59),
+                _ => move_from(0, state, 2, 59, Letter::D),
             },
-            // Two rows: from state 1 and from state 2.
-            Request::RemoteDisconnect => match state {
-                1..=2 => leave(state, 0, 62),
-                _ => Decision::Stay,
-            },
-            Request::ManualReconnect => move_from(2, state, 1, 61),
+            Request::RemoteDisconnect => disconnect(state),
+            Request::ManualReconnect => move_from(2, state, 1, 61, Letter::E),
             Request::ManualDisconnect => match mode {
-                1 | 2 | 5 => move_from(1, state, 2, 60),
+                1 | 2 | 5 => move_from(1, state, 2, 60, Letter::F),
                 _ => Decision::NotListed,
             },
-            Request::LocalDisconnect => move_from(1, state, 2, 64),
+            Request::LocalDisconnect => move_from(1, state, 2, 64, Letter::G),
             Request::LocalReconnect => match mode {
-                5..=6 => move_from(2, state, 1, 69),
+                5..=6 => move_from(2, state, 1, 69, Letter::H),
                 _ => Decision::NotListed,
             },
         },
@@ -87,7 +104,8 @@ pub fn decide(request: Request, mode: u8, state: u8) -> Decision
     }
 }
 
-// What accepting a mode does to the switch: mode 0 connects it, the others leave it.
+// What accepting a mode does to the switch: mode 0 connects it, a move without a letter; the others
+// leave it.
 pub fn decide_mode(mode: u8, state: u8) -> Decision
     ensures { λ r. ⌜ r ≡ modeDecision mode state ⌝ }
 {
@@ -96,6 +114,7 @@ pub fn decide_mode(mode: u8, state: u8) -> Decision
             to: 1,
             code: 63,
             opens: false,
+            letter: Letter::None,
         }
     } else {
         Decision::Stay

@@ -36,6 +36,7 @@ histories =
       spell-inside = refl;
       inside-a-spell = refl;
       spell-ended-by-mode-zero = refl;
+      letters-of-calls = refl;
       openings-out-of-one = refl;
       openings-held = refl;
       raised = refl;

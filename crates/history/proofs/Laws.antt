@@ -9,6 +9,7 @@ use Rattle.history.proofs.Splits.{owed-split}
 use Rattle.history.proofs.Stretches.{others-unseen, in-force, in-force-limits, stretch-split, exceeded-split, run-split}
 use Rattle.history.proofs.Openings.{openings-count-prefixes, openings-accepted, account-accepted, refused-account}
 use Rattle.history.proofs.OneMonitored.{one-monitored-value}
+use Rattle.history.proofs.Letters.{letter-row, letter-refused}
 
 laws-of : (f : AnyFresh) → LawsOf f
 laws-of f =
@@ -40,6 +41,8 @@ laws-of f =
       openingsAccepted = λ rows. openings-accepted rows f;
       accountAccepted = λ rows. account-accepted rows f;
       refusedNothing = λ rows. refused-account rows f;
+      letterRow = letter-row f;
+      letterRefused = λ rows. letter-refused rows f;
     }
 
 pub laws : Laws

@@ -9,6 +9,8 @@ use lib.IntN.{pos, negsuc}
 use lib.ListN.{getD}
 use Rattle.events.specs.Line.{Line, line}
 use Rattle.events.specs.Table.{builtIn}
+use Rattle.calls.specs.declared.Letter.{Letter}
+use Rattle.calls.specs.declared.Letter.the-variants.{A, B, C, D, E, F, G, H, None}
 use Rattle.calls.specs.declared.Call.{Call}
 use Rattle.calls.specs.declared.Call.the-variants.{Sample, RemoteDisconnect, RemoteReconnect, ManualDisconnect, ManualReconnect, SetMode, SetLimiter}
 use Rattle.calls.specs.declared.Call.the-variants.{SetClock, Event, SetAlarmFilter, SetErrorFilter, ClearAlarms, ClearErrors, ClearLog, Script}
@@ -16,7 +18,7 @@ use Rattle.history.specs.Effects.{remoteDisconnect, manualDisconnect, ma
 use Rattle.history.specs.Effects.{reading}
 use Rattle.history.specs.Switch.{decides}
 use Rattle.history.specs.Account.{AnyAccount, accountOf, anyAccount}
-use Rattle.history.specs.OnePhase.{Fresh, asFresh}
+use Rattle.history.specs.OnePhase.{Fresh, asFresh, letter}
 use Rattle.history.specs.Examples.{fresh, builtInAccount, refusal, answer, codes}
 
 -- what a call is answered in modes 0 to 6
@@ -45,6 +47,11 @@ switchAfterEach f calls (c ∷ cs) =
 -- the switch, the openings, and the codes of the disconnect log (log 3: lists are counted from 0)
 abbrev pub switchShows : Fresh → List Call → ℕ × ℕ × List ℕ
 switchShows f calls = let a = builtInAccount f calls in (a .switch, a .openings, codes (getD (a .logs) 2 []))
+
+-- the letter of each call of a list
+abbrev pub letterOfEach : Fresh → List Call → List Call → List Letter
+letterOfEach f calls [] = []
+letterOfEach f calls (c ∷ cs) = letter builtIn f calls c ∷ letterOfEach f (calls ++ (c ∷ [])) cs
 
 -- alarms, their filter, errors, theirs
 abbrev pub registerValues : List Call → ℕ × ℕ × ℕ × ℕ
@@ -141,6 +148,16 @@ pub record Histories : Type 0 where
       ≡ none ∷ none ∷ none ∷ []
   -- '.. or mode 0': the call that ends a spell is not inside it
   pub spell-ended-by-mode-zero : switchAfterEach (fresh 1 3 1 1 1000) [] (ManualDisconnect ∷ RemoteDisconnect ∷ SetMode 0 ∷ []) ≡ 2 ∷ 0 ∷ 1 ∷ []
+  -- document 02, A2: '.. a to h or none, b from 1 and c from 2 ..', also by script; 'The new move of A1 bears the letter a; accepting mode 0 answers none,
+  -- and so does a call that is refused or moves nothing'
+  pub letters-of-calls :
+      letterOfEach (fresh 5 3 1 1 1000) []
+      (overSample ∷ underSample ∷ overSample ∷ ManualReconnect ∷ underSample ∷ ManualReconnect ∷ ManualDisconnect ∷ RemoteDisconnect ∷ RemoteDisconnect
+      ∷ RemoteReconnect ∷ RemoteReconnect ∷ ManualReconnect ∷ Script 1 ∷ Script 2 ∷ SetMode 2 ∷ Script 2 ∷ Script 3 ∷ RemoteDisconnect ∷ RemoteReconnect
+      ∷ ManualDisconnect ∷ SetMode 0 ∷ ManualDisconnect ∷ [])
+      ≡ G ∷ H ∷ G ∷ E ∷ None ∷ None ∷ F ∷ C ∷ None
+      ∷ D ∷ None ∷ E ∷ B ∷ D ∷ None ∷ A ∷ None ∷ B ∷ A
+      ∷ F ∷ None ∷ None ∷ []
   -- openings: a move out of 1 alone, and held
   pub openings-out-of-one :
       builtInAccount (fresh 2 3 1 1 1000) (ManualDisconnect ∷ RemoteDisconnect ∷ RemoteReconnect ∷ RemoteDisconnect ∷ []) .openings ≡ 2

@@ -14,6 +14,8 @@ use Rattle.base.specs.Bits.{bit}
 use Rattle.base.specs.Tests.{among}
 use Rattle.events.specs.Line.{Line, line}
 use Rattle.events.specs.Table.{EventRow}
+use Rattle.calls.specs.declared.Letter.{Letter}
+use Rattle.calls.specs.declared.Letter.the-variants.{None}
 use Rattle.history.specs.Effects.{AnyFresh, AnyCall, remoteReconnect, manualDisconnect, manualReconnect, WhichRegister, Effect, sampled, requested}
 use Rattle.history.specs.Effects.{modeSet, limitsSet, refused, reading}
 use Rattle.history.specs.Last.{History, given, modeIn, modeOf, Limits, limits, limitsIn, limitsOf, filterIn, filterOf, clockOf}
@@ -23,6 +25,7 @@ use Rattle.history.specs.Registers.{raises, clears, stands, bitsOf}
 use Rattle.history.specs.Logs.{when, moves, owedBy, owed}
 use Rattle.history.specs.Splits.{LatestElse, Ongoing, ClockSince, InSpell, OwedSince, openingPrefixes, InForce, FullStretch, stretchAt, Trailing}
 use Rattle.history.specs.Account.{acceptedCalls, opens, openings, accountOf, accountAfter}
+use Rattle.history.specs.Letters.{letterOf, letterAfter, AnswersLetter}
 
 -- 'Openings: prefixes with switch 1 whose next call gives another ..', counted over accepted calls
 unfoldable pub openingsOf : AnyFresh → History → ℕ
@@ -170,6 +173,16 @@ pub record LawsOf (f : AnyFresh) : Type 0 where
       (rows : List EventRow) (c : AnyCall) (cs : List AnyCall) (n : ℕ)
       → reading rows (modeOf f (acceptedCalls rows f cs)) c ≡ refused n
       → accountAfter rows f (c ∷ cs) ≡ accountAfter rows f cs
+  -- document 02, A2: 'The switch rule now answers a to h or none, b from 1 and c from 2 ..': an accepted call answers the letter of the row by which the
+  -- switch went, and none where it stays or mode 0 is accepted
+  pub letterRow :
+      (x : Letter) (e : Effect) (h : History)
+      → (letterOf f e h ≡ x) ↔ AnswersLetter x e (switchOf f h) (switchOf f (e ∷ h))
+  -- document 02, A2: '.. and so does a call that is refused ..'
+  pub letterRefused :
+      (rows : List EventRow) (call : AnyCall) (calls : List AnyCall) (n : ℕ)
+      → reading rows (modeOf f (acceptedCalls rows f calls)) call ≡ refused n
+      → letterAfter rows f calls call ≡ None
 
 -- with one monitored value a sample decides and owes what document 01 says of its firing, over or under
 pub record OneMonitoredValue (f : AnyFresh) : Type 0 where

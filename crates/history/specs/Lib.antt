@@ -5,6 +5,7 @@ pub mod Switch
 pub mod Registers
 pub mod Logs
 pub mod Account
+pub mod Letters
 pub mod OnePhase
 pub mod Splits
 pub mod Laws

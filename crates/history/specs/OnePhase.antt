@@ -1,17 +1,19 @@
 -- Document 01's meter: one phase, so its limiter has one monitored value.
 use Prim.Native.Nat.{ℕ}
 use mathlib.Core.Bool.{Bool, false}
-use mathlib.Core.List.{List, [], _∷_, map}
+use mathlib.Core.List.{List, [], _∷_, map, reverse}
 use lib.IntN.{ℤ, pos}
 use lib.ListN.{getD}
 use Rattle.events.specs.Line.{Line}
 use Rattle.events.specs.Table.{EventRow}
+use Rattle.calls.specs.declared.Letter.{Letter}
 use Rattle.calls.specs.declared.Call.{Call}
 use Rattle.calls.specs.declared.Call.the-variants.{Sample, RemoteDisconnect, RemoteReconnect, ManualDisconnect, ManualReconnect, SetMode, SetLimiter}
 use Rattle.calls.specs.declared.Call.the-variants.{SetClock, Event, SetAlarmFilter, SetErrorFilter, ClearAlarms, ClearErrors, ClearLog, Script}
 use Rattle.history.specs.Effects.{AnyFresh, remoteDisconnect, remoteReconnect, manualDisconnect, manualReconnect, alarms, errors, AnyCall, sample}
 use Rattle.history.specs.Effects.{request, setMode, setLimiter, setClock, event, setFilter, clearBits, clearLog, script}
 use Rattle.history.specs.Account.{MonitoredValue, AnyAccount, anyAccount}
+use Rattle.history.specs.Letters.{letterAfter}
 
 -- 'Fresh takes mode, threshold, Over, Under, clock ..'; the account is meant for settings that fresh accepts
 pub record Fresh : Type 0 where
@@ -88,3 +90,7 @@ onePhase a =
 -- 'Drawn from the list and its fresh settings ..': the list in the order of its calls; by an event table, document 01's being `builtIn`
 abbrev pub account : List EventRow → Fresh → List Call → Account
 account rows f calls = onePhase (anyAccount rows (asFresh f) (map asCall calls))
+
+-- document 02, A2: '.. every call hands the letter on beside its answer': that of a call behind a list of calls, these in their order
+abbrev pub letter : List EventRow → Fresh → List Call → Call → Letter
+letter rows f calls c = letterAfter rows (asFresh f) (reverse (map asCall calls)) (asCall c)

@@ -13,6 +13,7 @@ use Rattle.base.proofs.Bools.{and-left, and-right}
 use Rattle.events.specs.Line.{isLog}
 use Rattle.events.specs.Table.{EventRow, lookup, lawful}
 use Rattle.events.proofs.Rule.{row-passes}
+use Rattle.calls.specs.declared.Letter.{Letter}
 use Rattle.control.specs.declared.Request.{Request as ControlRequest}
 use Rattle.control.specs.declared.Decision.{Decision}
 use Rattle.control.specs.declared.Decision.the-variants.{Move, Stay, NotListed}
@@ -36,7 +37,7 @@ either P false p q = q refl
 
 -- ---- the mode rule: a request is refused exactly where no row of the switch table lists it in the mode
 abbrev listed : Decision → Bool
-listed (Move t c o) = true
+listed (Move t c o x) = true
 listed Stay = true
 listed NotListed = false
 
@@ -45,18 +46,18 @@ listedBy [] q m = false
 listedBy (r ∷ rs) q m = lists q m r || listedBy rs q m
 
 -- a row that lists request and mode gives a move or a stay
-row-listed : (l b : Bool) (t c : ℕ) (o : Bool) (d : Decision) → listed (cond l (cond b (Move t c o) (orStay d)) d) ≡ (l || listed d)
-row-listed false b t c o d = refl
-row-listed true true t c o d = refl
-row-listed true false t c o (Move t′ c′ o′) = refl
-row-listed true false t c o Stay = refl
-row-listed true false t c o NotListed = refl
+row-listed : (l b : Bool) (t c : ℕ) (o : Bool) (x : Letter) (d : Decision) → listed (cond l (cond b (Move t c o x) (orStay d)) d) ≡ (l || listed d)
+row-listed false b t c o x d = refl
+row-listed true true t c o x d = refl
+row-listed true false t c o x (Move t′ c′ o′ x′) = refl
+row-listed true false t c o x Stay = refl
+row-listed true false t c o x NotListed = refl
 
 rows-listed : (rows : List SwitchRow) (q : ControlRequest) (m s : ℕ) → listed (decision rows q m s) ≡ listedBy rows q m
 unfolding decision
 rows-listed [] q m s = refl
 rows-listed (r ∷ rs) q m s =
-    row-listed (lists q m r) (eqb s (r .from)) (r .to) (r .code) (eqb s 1) (decision rs q m s)
+    row-listed (lists q m r) (eqb s (r .from)) (r .to) (r .code) (eqb s 1) (r .letter) (decision rs q m s)
     ∙ ap (λ b. lists q m r || b) (rows-listed rs q m s)
 
 -- rows b and c list the same modes, and so do the two rows a
@@ -94,10 +95,10 @@ module _ (s : Values) where
     where
       go : (d : Decision) (b : Bool) → d ≡ decided s (requestOf q) → listed d ≡ b
           → answering s d ≡ readResult s (cond b (accepted (requested q)) (refused 2))
-      go (Move t c o) true e h = ap (λ (x : Decision). making (moving s [] x)) e
+      go (Move t c o l) true e h = ap (λ (x : Decision). making (moving s [] x)) e
       go Stay true e h = ap (λ (x : Decision). making (moving s [] x)) e
       go NotListed false e h = refl
-      go (Move t c o) false e h = cc
+      go (Move t c o l) false e h = cc
       go Stay false e h = cc
       go NotListed true e h = cc
 

@@ -14,6 +14,7 @@ use Rattle.control.specs.declared.Control.{Control}
 use Rattle.control.specs.Control.{modeDecision, inMode}
 use Rattle.limiter.specs.declared.Limiter.{Limiter}
 use Rattle.calls.specs.Calls.{Word}
+use Rattle.calls.specs.declared.Letter.the-variants.{None}
 use Rattle.history.specs.Effects.{AnyFresh, WhichRegister, alarms, errors, Effect, sampled, requested, modeSet, limitsSet, clockSet, occurred, filterSet}
 use Rattle.history.specs.Effects.{bitsCleared, logCleared, listedModes, Reading, refused, accepted}
 use Rattle.history.specs.Last.{History, modeOf, limitsOf, thresholdOf, filterOf, clockOf}
@@ -35,7 +36,7 @@ effectResult s (clockSet n) = clockResult s n
 effectResult s (occurred r) = reported s r
 effectResult s (filterSet x n) = filterResult s x n
 effectResult s (bitsCleared x n) = clearResult s x n
-effectResult s (logCleared n) = record { values = s; cleared = n; log = n; lines = lineNow s 255 ∷ [] }
+effectResult s (logCleared n) = record { values = s; letter = None; cleared = n; log = n; lines = lineNow s 255 ∷ [] }
 
 -- a call as it is read: refused, or carried out
 abbrev pub readResult : Values → Reading → Result

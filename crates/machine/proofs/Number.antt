@@ -28,7 +28,7 @@ length-each k f [] = refl
 length-each k f (x ∷ xs) = ap suc (length-each (suc k) f xs)
 
 moving-limiters : (v : Values) (xs : List Line) (d : Decision) → moving v xs d .values .limiters ≡ v .limiters
-moving-limiters v xs (Move t c o) = refl
+moving-limiters v xs (Move t c o x) = refl
 moving-limiters v xs Stay = refl
 moving-limiters v xs NotListed = refl
 

@@ -33,7 +33,7 @@ abbrev Apart : Values → Values → Type 0
 Apart s t = t ≡ withControl (withLimiters s (t .limiters)) (t .control)
 
 moving-apart : (s : Values) (xs : List Line) (d : Decision) → Apart s (moving s xs d .values)
-moving-apart s xs (Move t c o) = refl
+moving-apart s xs (Move t c o x) = refl
 moving-apart s xs Stay = refl
 moving-apart s xs NotListed = refl
 

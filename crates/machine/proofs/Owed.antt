@@ -8,13 +8,14 @@ use lib.Dec.{eqb}
 use borrow.Author.Tests.{ne-eqb}
 use Rattle.base.specs.Numbers.{held}
 use Rattle.events.specs.Line.{Line, isLog}
+use Rattle.calls.specs.declared.Letter.{Letter}
 use Rattle.logs.proofs.Numbers.{log-least}
 use Rattle.history.specs.Effects.{AnyFresh, alarms, errors, Effect, sampled, requested, modeSet, limitsSet, clockSet, occurred, filterSet, bitsCleared}
 use Rattle.history.specs.Effects.{logCleared}
 use Rattle.history.specs.Last.{History, last, samplesSince, modeOf}
 use Rattle.history.specs.Logs.{when, moves, owedBy, clearsLog}
 use Rattle.machine.specs.Values.{Values}
-use Rattle.machine.specs.Machine.{owing}
+use Rattle.machine.specs.Machine.{owing, lettered}
 use Rattle.machine.specs.Ranges.{AnySettings}
 use Rattle.machine.proofs.Effects.{effectResult, Proper, AllProper, heldValues}
 use Rattle.machine.proofs.Clock.{clock-part}
@@ -39,9 +40,9 @@ not-zero n l = ne-eqb n 0 (λ e. omega (arith, log-least n l))
 
 module _ (f : AnyFresh) (e : Effect) (h : History) where
   -- a call that clears no log
-  owing-lines : (s : Values) (n : ℕ) (xs : List Line) → ((k : ℕ) → clearsLog k e ≡ false) → ((k : ℕ) → cond (eqb k n) xs [] ≡ owedBy f k e h)
-      → Owing f e h (owing s n xs)
-  owing-lines s n xs c o = record { lines = λ k l. o k; cleared = λ k l. not-zero k l ∙ sym (c k) }
+  owing-lines : (s : Values) (x : Letter) (n : ℕ) (xs : List Line) → ((k : ℕ) → clearsLog k e ≡ false) → ((k : ℕ) → cond (eqb k n) xs [] ≡ owedBy f k e h)
+      → Owing f e h (lettered x (owing s n xs))
+  owing-lines s x n xs c o = record { lines = λ k l. o k; cleared = λ k l. not-zero k l ∙ sym (c k) }
 
 module _ (f : AnyFresh) (h : History) (m : ℕ) (t : AnySettings f) (all : AllProper f h) where
   pub owing-after : (e : Effect) → Proper (modeOf f h) e → Owing f e h (effectResult (heldValues f h (held m)) e)
@@ -49,20 +50,20 @@ module _ (f : AnyFresh) (h : History) (m : ℕ) (t : AnySettings f) (all : AllPr
   owing-after (sampled p) g =
       let now = clock-part f h (heldValues f h (held m)) refl (sampled p) g in
       subst (Owing f (sampled p) h) (sym (sampled-result f h p m t all))
-      (owing-lines f (sampled p) h _ 3 _ (λ k. refl) (λ k. rw now (when-one (eqb k 3) _)))
+      (owing-lines f (sampled p) h _ _ 3 _ (λ k. refl) (λ k. rw now (when-one (eqb k 3) _)))
   owing-after (requested q) g =
       subst (Owing f (requested q) h) (sym (requested-result f h q m g))
-      (owing-lines f (requested q) h _ 3 _ (λ k. refl) (λ k. when-both (eqb k 3) (moves f (requested q) h) _))
+      (owing-lines f (requested q) h _ _ 3 _ (λ k. refl) (λ k. when-both (eqb k 3) (moves f (requested q) h) _))
   owing-after (modeSet n) g =
       subst (Owing f (modeSet n) h) (sym (mode-result f h n m))
-      (owing-lines f (modeSet n) h _ 3 _ (λ k. refl) (λ k. when-both (eqb k 3) (moves f (modeSet n) h) _))
-  owing-after (limitsSet w o u) g = owing-lines f (limitsSet w o u) h _ 3 _ (λ k. refl) (λ k. when-one (eqb k 3) _)
+      (owing-lines f (modeSet n) h _ _ 3 _ (λ k. refl) (λ k. when-both (eqb k 3) (moves f (modeSet n) h) _))
+  owing-after (limitsSet w o u) g = owing-lines f (limitsSet w o u) h _ _ 3 _ (λ k. refl) (λ k. when-one (eqb k 3) _)
   owing-after (clockSet n) g =
       let now = clock-part f h (heldValues f h (held m)) refl (clockSet n) g in
-      owing-lines f (clockSet n) h _ 1 _ (λ k. refl) (λ k. rw (← now) (when-one (eqb k 1) _))
-  owing-after (occurred r) g = owing-lines f (occurred r) h _ (r .log) _ (λ k. refl) (λ k. when-one (eqb k (r .log)) _)
-  owing-after (filterSet alarms n) g = owing-lines f (filterSet alarms n) h _ 0 [] (λ k. refl) (λ k. when-none (eqb k 0))
-  owing-after (filterSet errors n) g = owing-lines f (filterSet errors n) h _ 0 [] (λ k. refl) (λ k. when-none (eqb k 0))
-  owing-after (bitsCleared alarms n) g = owing-lines f (bitsCleared alarms n) h _ 1 _ (λ k. refl) (λ k. when-one (eqb k 1) _)
-  owing-after (bitsCleared errors n) g = owing-lines f (bitsCleared errors n) h _ 1 _ (λ k. refl) (λ k. when-one (eqb k 1) _)
+      owing-lines f (clockSet n) h _ _ 1 _ (λ k. refl) (λ k. rw (← now) (when-one (eqb k 1) _))
+  owing-after (occurred r) g = owing-lines f (occurred r) h _ _ (r .log) _ (λ k. refl) (λ k. when-one (eqb k (r .log)) _)
+  owing-after (filterSet alarms n) g = owing-lines f (filterSet alarms n) h _ _ 0 [] (λ k. refl) (λ k. when-none (eqb k 0))
+  owing-after (filterSet errors n) g = owing-lines f (filterSet errors n) h _ _ 0 [] (λ k. refl) (λ k. when-none (eqb k 0))
+  owing-after (bitsCleared alarms n) g = owing-lines f (bitsCleared alarms n) h _ _ 1 _ (λ k. refl) (λ k. when-one (eqb k 1) _)
+  owing-after (bitsCleared errors n) g = owing-lines f (bitsCleared errors n) h _ _ 1 _ (λ k. refl) (λ k. when-one (eqb k 1) _)
   owing-after (logCleared n) g = record { lines = λ k l. when-one (eqb k n) _; cleared = λ k l. refl }

@@ -14,6 +14,7 @@ use Rattle.events.specs.Line.{Line, line, isLog}
 use Rattle.events.specs.Table.{EventRow, lookup, lawful}
 use Rattle.events.specs.Codes.{besides, mayHold}
 use Rattle.events.proofs.Rule.{row-held, row-log}
+use Rattle.calls.specs.declared.Letter.the-variants.{None}
 use Rattle.control.specs.declared.Control.{Control}
 use Rattle.control.specs.declared.Request.{Request}
 use Rattle.control.specs.declared.Request.the-variants as request
@@ -131,12 +132,12 @@ module _ (rows : List EventRow) where
   moving-sound s xs q h o = go (decided s q) refl
     where
       go : (d : Decision) → decided s q ≡ d → SoundChange rows (moving s xs d)
-      go (Move t c b) e =
+      go (Move t c b l) e =
           record {
-            values = values-of _ (s .limiters) (moved-sound _ q _ c b e) (limiters-sound s h);
+            values = values-of _ (s .limiters) (moved-sound _ q _ c b l e) (limiters-sound s h);
             lines =
                 every-append (λ x. mayHold rows 3 (x .code)) xs (lineNow s c ∷ []) o
-                (move-own rows (s .clock) c (table-move q _ _ t c b e .code));
+                (move-own rows (s .clock) c (table-move q _ _ t c b l e .code));
           }
       go Stay e = record { values = h; lines = o }
       go NotListed e = record { values = h; lines = o }
@@ -146,7 +147,7 @@ module _ (rows : List EventRow) where
   request-sound s q h = go (decided s q) (moving-sound s [] q h refl)
     where
       go : (d : Decision) → SoundChange rows (moving s [] d) → SoundResult rows (answering s d)
-      go (Move t c b) k = k
+      go (Move t c b l) k = k
       go Stay k = k
       go NotListed k = tt
 
@@ -187,11 +188,11 @@ module _ (rows : List EventRow) where
       (λ k. go k (eqb n 0 && not (eqb (s .control .state) 1)) refl)
       (λ k. tt)
     where
-      go : leb n 6 ≡ true → (b : Bool) → modeDecision n (s .control .state) ≡ cond b (Move 1 63 false) Stay
-          → SoundChange rows (moving (withControl s (inMode (s .control) n)) [] (cond b (Move 1 63 false) Stay))
+      go : leb n 6 ≡ true → (b : Bool) → modeDecision n (s .control .state) ≡ cond b (Move 1 63 false None) Stay
+          → SoundChange rows (moving (withControl s (inMode (s .control) n)) [] (cond b (Move 1 63 false None) Stay))
       go k true e =
           record {
-            values = values-of _ (s .limiters) (mode-moved-sound _ (s .control .state) 63 false k e) (limiters-sound s h);
+            values = values-of _ (s .limiters) (mode-moved-sound _ (s .control .state) 63 false None k e) (limiters-sound s h);
             lines = further-own rows 3 (s .clock) 63 refl refl;
           }
       go k false e =

@@ -4,7 +4,7 @@ use Prim.Native.Nat.{ℕ, suc, _+_}
 use native.Mathlib.Omega.{arith}
 use mathlib.Core.Path.{_≡_, refl, ap, sym, _∙_}
 use mathlib.Core.Bool.{true, cond, and-not-self}
-use mathlib.Core.List.{List, [], _∷_, map, reverseAux}
+use mathlib.Core.List.{List, [], _∷_, map, reverse, reverseAux}
 use lib.Dec.{eqb}
 use Rattle.base.specs.Numbers.{held}
 use Rattle.base.specs.Bits.{number}
@@ -18,6 +18,7 @@ use Rattle.history.specs.Limiter.{exceeded, trailing, sinceSetting, monitoredVa
 use Rattle.history.specs.Switch.{spell, switchOf}
 use Rattle.history.specs.Registers.{stands}
 use Rattle.history.specs.Logs.{owed}
+use Rattle.history.specs.Letters.{letterRead, letterAfter}
 use Rattle.history.specs.Account.{monitoredOf, grown, acceptedCalls, opens, openings, accountOf, accountAfter}
 use Rattle.machine.specs.Values.{State}
 use Rattle.machine.specs.Sound.{soundState}
@@ -27,12 +28,12 @@ use Rattle.machine.specs.Fresh.{freshLimiter, freshValues}
 use Rattle.machine.specs.Holding.{limiterHolding, valuesHolding}
 use Rattle.machine.proofs.Lists.{map-map, by-number}
 use Rattle.machine.proofs.Effects.{effectResult, readResult, Proper, AllProper, none, more, heldLimiters, heldValues, nextOpenings}
-use Rattle.machine.specs.Laws.{afterResult, stateAfterCalls, Laws}
+use Rattle.machine.specs.Laws.{afterResult, stateAfterCalls, letterIn, Laws}
 use Rattle.machine.proofs.Answers.{by-reading, proper}
 use Rattle.machine.proofs.Preserved.{kept-sound, fresh-sound}
 use Rattle.machine.proofs.Clock.{clock-after}
 use Rattle.machine.proofs.Registers.{register-after}
-use Rattle.machine.proofs.Switch.{control-kept, limiters-after}
+use Rattle.machine.proofs.Switch.{control-kept, limiters-after, letter-after}
 use Rattle.machine.proofs.Lines.{logs-after}
 use Rattle.machine.proofs.Owed.{owing-after}
 
@@ -97,6 +98,14 @@ fresh-values f t =
     word n w = omega arith
 
 -- ---- a whole list of calls
+-- the calls of a list are in range in any order
+in-range-onto : (calls before : List AnyCall) → AllAnyInRange calls → AllAnyInRange before → AllAnyInRange (reverseAux calls before)
+in-range-onto [] before i k = k
+in-range-onto (c ∷ calls) before i k = in-range-onto calls (c ∷ before) (i .1) (i .0, k)
+
+in-reverse : (calls : List AnyCall) → AllAnyInRange calls → AllAnyInRange (reverse calls)
+in-reverse calls i = in-range-onto calls [] i tt
+
 -- a refused call changes no prefix's account
 refused-openings : (s n : ℕ) → cond (opens s s) (suc n) n ≡ n
 refused-openings s n = rw (and-not-self (eqb s 1))
@@ -154,10 +163,31 @@ module _ (rows : List EventRow) (table : every lawful rows ≡ true) (f : AnyFre
   holds-from before (c ∷ calls) i k =
       ap (λ (s : State). stateAfterCalls rows s calls) (next c before (k .0) i) ∙ holds-from (c ∷ before) calls (k .0, i) (k .1)
 
+  -- after any list of calls
+  after-calls : (calls : List AnyCall) → AllAnyInRange calls → stateAfterCalls rows (freshValues f) calls ≡ named (reverse calls)
+  unfolding acceptedCalls openings
+  after-calls calls i = ap (λ (s : State). stateAfterCalls rows s calls) (fresh-values f t) ∙ holds-from [] calls tt i
+
+  -- the letter of one more call on the values that the account names; `cs` newest first
+  pub named-letter : (c : AnyCall) (cs : List AnyCall) → AnyInRange c → AllAnyInRange cs → letterIn (result rows (named cs .values) c) ≡ letterAfter rows f cs c
+  named-letter c cs i k =
+      ap letterIn (by-reading rows (named cs .values) c)
+      ∙ ap (λ (v : State). letterIn (readResult (v .values) (reading rows (modeOf f h) c))) (held-stated f h (openings rows f cs))
+      ∙ go (reading rows (modeOf f h) c) refl
+    where
+      h : History
+      h = acceptedCalls rows f cs
+
+      go : (x : Reading) → reading rows (modeOf f h) c ≡ x
+          → letterIn (readResult (heldValues f h (held (openings rows f cs))) x) ≡ letterRead f x h
+      go (refused m) e = refl
+      go (accepted x) e = letter-after f h x (openings rows f cs) t (all-proper cs k) (proper rows table (modeOf f h) c x i e)
+
 pub laws : Laws
-unfolding acceptedCalls openings
 laws =
     record {
-      simulates = λ rows f calls table t i.
-          ap (λ (s : State). stateAfterCalls rows s calls) (fresh-values f t) ∙ holds-from rows table f t [] calls tt i;
+      simulates = λ rows f calls table t i. after-calls rows table f t calls i;
+      letters = λ rows f calls c table t i.
+          ap (λ (s : State). letterIn (result rows (s .values) c)) (after-calls rows table f t calls (i .1))
+          ∙ named-letter rows table f t c (reverse calls) (i .0) (in-reverse calls (i .1));
     }

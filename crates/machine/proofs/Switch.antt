@@ -14,6 +14,8 @@ use Rattle.base.proofs.Bools.{beq-eq}
 use Rattle.base.proofs.Every.{among-passes}
 use Rattle.base.proofs.Below.{below-at}
 use Rattle.events.specs.Line.{Line, line}
+use Rattle.calls.specs.declared.Letter.{Letter}
+use Rattle.calls.specs.declared.Letter.the-variants.{A, D, E, F, None}
 use Rattle.control.specs.declared.Control.{Control}
 use Rattle.control.specs.declared.Request.the-variants as request
 use Rattle.control.specs.declared.Decision.{Decision}
@@ -27,12 +29,14 @@ use Rattle.history.specs.Effects.{AnyFresh, RequestCall, remoteDisconnect, remo
 use Rattle.history.specs.Effects.{sampled, requested, modeSet, limitsSet, clockSet, occurred, filterSet, bitsCleared, logCleared, listedModes}
 use Rattle.history.specs.Last.{History, otherwise, given, last, modeOf, clockOf}
 use Rattle.history.specs.Limiter.{firesOver, firesUnder, monitoredValues, observations, exceededOf}
-use Rattle.history.specs.Switch.{spell, triesDisconnect, triesReconnect, decides, switchOf}
+use Rattle.history.specs.Switch.{spell, decides, switchOf}
 use Rattle.history.specs.Logs.{when, moves, requestCode, localCode}
 use Rattle.history.specs.Account.{opens}
+use Rattle.history.specs.Letters.{requestLetter, localLetter, moveLetter, letterOf}
+use Rattle.history.proofs.Letters.{OneOrTwo, one, two, triedG, triedH, last-decided}
 use Rattle.machine.specs.Values.{Values, withControl, withLimiters, withClock}
-use Rattle.machine.specs.Machine.{Change, owing, lineNow, moving, decided, requestOf, firedLines, disconnectTried, reconnectTried, afterSample}
-use Rattle.machine.specs.Machine.{sampleResult}
+use Rattle.machine.specs.Machine.{Change, owing, lettered, lineNow, moving, decided, requestOf, firedLines, disconnectTried, reconnectTried}
+use Rattle.machine.specs.Machine.{afterSample, sampleResult}
 use Rattle.machine.specs.Ranges.{AnySettings}
 use Rattle.machine.proofs.Lists.{map-map, any-map, any-ext, gathered-map, gathered-ext}
 use Rattle.machine.proofs.Ranges.{mode-range}
@@ -68,62 +72,19 @@ five-listed : (m : ℕ) → among (5 ∷ 6 ∷ []) m ≡ true → within 1 6 m �
 unfolding every
 five-listed m e = among-passes (within 1 6) (5 ∷ 6 ∷ []) m refl e
 
--- whether a sample tries g, and whether h
-abbrev triedG : AnyFresh → History → List ℤ → Bool
-triedG f h ps = triesDisconnect f (λ k. observations f k h) (λ k. observations f k (sampled ps ∷ h))
-
-abbrev triedH : AnyFresh → History → List ℤ → Bool
-triedH f h ps = triesReconnect f (λ k. observations f k h) (λ k. observations f k (sampled ps ∷ h))
-
--- ---- what the last deciding call gives: 1 or 2
-data OneOrTwo : ℕ → Type 0 where
-  one : OneOrTwo 1
-  two : OneOrTwo 2
-
--- each deciding call gives 1 or 2
-decided-given : (x : Bool) {k c : ℕ} → OneOrTwo k → OneOrTwo c → OneOrTwo (otherwise (given x k) c)
-decided-given true p q = p
-decided-given false p q = q
-
-decided-sample : (s a x u : Bool) {c : ℕ} → OneOrTwo c → OneOrTwo (otherwise (cond s nothing (cond a (given x 2) (given u 1))) c)
-decided-sample true a x u p = p
-decided-sample false true x u p = decided-given x two p
-decided-sample false false x u p = decided-given u one p
-
-decided-reconnect : (s x : Bool) {c : ℕ} → OneOrTwo c → OneOrTwo (otherwise (cond s (some (cond x 1 2)) (given x 1)) c)
-decided-reconnect true true p = one
-decided-reconnect true false p = two
-decided-reconnect false x p = decided-given x one p
-
-last-decided : (f : AnyFresh) (h : History) → OneOrTwo (last (decides f) 1 h)
-unfolding last
-last-decided f [] = one
-last-decided f (sampled ps ∷ h) =
-    decided-sample (spell h) (triedG f h ps) (not (eqb (modeOf f h) 0)) (triedH f h ps && among (5 ∷ 6 ∷ []) (modeOf f h)) (last-decided f h)
-last-decided f (requested remoteDisconnect ∷ h) = last-decided f h
-last-decided f (requested remoteReconnect ∷ h) = decided-reconnect (spell h) (among (2 ∷ 4 ∷ []) (modeOf f h)) (last-decided f h)
-last-decided f (requested manualDisconnect ∷ h) = decided-given (not (spell h)) two (last-decided f h)
-last-decided f (requested manualReconnect ∷ h) = decided-given (not (spell h)) one (last-decided f h)
-last-decided f (modeSet n ∷ h) = decided-given (eqb n 0) one (last-decided f h)
-last-decided f (limitsSet t o u ∷ h) = last-decided f h
-last-decided f (clockSet n ∷ h) = last-decided f h
-last-decided f (occurred r ∷ h) = last-decided f h
-last-decided f (filterSet r n ∷ h) = last-decided f h
-last-decided f (bitsCleared r n ∷ h) = last-decided f h
-last-decided f (logCleared n ∷ h) = last-decided f h
-
 -- ---- the decisions
--- a change of the switch as a decision: none, or a move with its line, out of 1 or not
-abbrev pub change : ℕ → ℕ → ℕ → Decision
-change from to code = cond (eqb from to) Stay (Move to code (eqb from 1))
+-- a change of the switch as a decision: none, or a move with its line and letter, out of 1 or not
+abbrev pub change : ℕ → ℕ → ℕ → Letter → Decision
+change from to code x = cond (eqb from to) Stay (Move to code (eqb from 1) x)
 
--- a decision carries out the account's change of the switch at a call, with this line
+-- a decision carries out the account's change of the switch at a call, with this line and the account's letter
 abbrev pub Switches : AnyFresh → Effect → History → ℕ → Decision → Type 0
-Switches f e h code d = orStay d ≡ change (switchOf f h) (switchOf f (e ∷ h)) code
+Switches f e h code d = orStay d ≡ change (switchOf f h) (switchOf f (e ∷ h)) code (moveLetter e (switchOf f h) (switchOf f (e ∷ h)))
 
 -- the rows of each request, in each position: inside a spell (s) it is 0, else what the last deciding call gave (c)
 module _ (m : ℕ) (listed : within 1 6 m ≡ true) where
-  remote-disconnect : (s : Bool) {c : ℕ} → OneOrTwo c → orStay (answered request.RemoteDisconnect m (cond s 0 c)) ≡ change (cond s 0 c) 0 62
+  remote-disconnect : (s : Bool) {c : ℕ} → OneOrTwo c
+      → orStay (answered request.RemoteDisconnect m (cond s 0 c)) ≡ change (cond s 0 c) 0 62 (requestLetter remoteDisconnect (cond s 0 c) 0)
   unfolding answered
   remote-disconnect true p = rw listed
   remote-disconnect false one = rw listed
@@ -131,7 +92,7 @@ module _ (m : ℕ) (listed : within 1 6 m ≡ true) where
 
   remote-reconnect : (s x : Bool) → among (2 ∷ 4 ∷ []) m ≡ x → {c : ℕ} → OneOrTwo c
       → let to = otherwise (cond s (some (cond x 1 2)) (given x 1)) c in
-      orStay (answered request.RemoteReconnect m (cond s 0 c)) ≡ change (cond s 0 c) to (cond (eqb to 1) 63 59)
+      orStay (answered request.RemoteReconnect m (cond s 0 c)) ≡ change (cond s 0 c) to (cond (eqb to 1) 63 59) (cond (eqb to 1) A D)
   unfolding answered among
   remote-reconnect true true e p = rw (listed, e)
   remote-reconnect true false e p = rw (listed, e)
@@ -141,14 +102,14 @@ module _ (m : ℕ) (listed : within 1 6 m ≡ true) where
   remote-reconnect false false e two = rw (listed, e)
 
   manual-disconnect : eqb m 5 || within 1 2 m ≡ true → (s : Bool) {c : ℕ} → OneOrTwo c
-      → orStay (answered request.ManualDisconnect m (cond s 0 c)) ≡ change (cond s 0 c) (cond s 0 (otherwise (given (not s) 2) c)) 60
+      → orStay (answered request.ManualDisconnect m (cond s 0 c)) ≡ change (cond s 0 c) (cond s 0 (otherwise (given (not s) 2) c)) 60 F
   unfolding answered
   manual-disconnect e true p = rw (listed, e)
   manual-disconnect e false one = rw (listed, e)
   manual-disconnect e false two = rw (listed, e)
 
   manual-reconnect : (s : Bool) {c : ℕ} → OneOrTwo c
-      → orStay (answered request.ManualReconnect m (cond s 0 c)) ≡ change (cond s 0 c) (cond s 0 (otherwise (given (not s) 1) c)) 61
+      → orStay (answered request.ManualReconnect m (cond s 0 c)) ≡ change (cond s 0 c) (cond s 0 (otherwise (given (not s) 1) c)) 61 E
   unfolding answered
   manual-reconnect true p = rw listed
   manual-reconnect false one = rw listed
@@ -169,7 +130,7 @@ request-switches f h manualReconnect p =
 
 -- a mode
 mode-rows : (n : ℕ) (s z : Bool) → eqb n 0 ≡ z → {c : ℕ} → OneOrTwo c
-    → orStay (modeDecision n (cond s 0 c)) ≡ change (cond s 0 c) (cond (otherwise (given z false) s) 0 (otherwise (given z 1) c)) 63
+    → orStay (modeDecision n (cond s 0 c)) ≡ change (cond s 0 c) (cond (otherwise (given z false) s) 0 (otherwise (given z 1) c)) 63 None
 unfolding modeDecision
 mode-rows n true true e p = rw e
 mode-rows n true false e p = rw e
@@ -191,7 +152,8 @@ sample-stays true x y c = refl
 sample-stays false x y c = refl
 
 local-disconnect : (m : ℕ) (s b x y : Bool) → within 1 6 m ≡ x → {c : ℕ} → OneOrTwo c
-    → orStay (answered request.LocalDisconnect m (cond s 0 c)) ≡ change (cond s 0 c) (sampledTo s c true b x y) (localCode (sampledTo s c true b x y))
+    → orStay (answered request.LocalDisconnect m (cond s 0 c))
+    ≡ (let to = sampledTo s c true b x y in change (cond s 0 c) to (localCode to) (localLetter to))
 unfolding answered
 local-disconnect m true b true y e p = rw e
 local-disconnect m true b false y e p = rw e
@@ -207,7 +169,7 @@ unlisted false = refl
 
 local-reconnect : (m : ℕ) (s x y : Bool) → within 5 6 m ≡ y → (y ≡ true → within 1 6 m ≡ true) → {c : ℕ} → OneOrTwo c
     → orStay (answered request.LocalReconnect m (cond s 0 c))
-    ≡ change (cond s 0 c) (sampledTo s c false true x y) (localCode (sampledTo s c false true x y))
+    ≡ (let to = sampledTo s c false true x y in change (cond s 0 c) to (localCode to) (localLetter to))
 unfolding answered
 local-reconnect m true x true e k p = rw (e, k refl)
 local-reconnect m false x true e k one = rw (e, k refl)
@@ -263,19 +225,21 @@ leaves-one from to e = go (eqb from 1) (eqb to 1) refl refl
     go true false p q = refl
     go false y p q = refl
 
--- a decision that carries out a change: the control, and the line behind those already owed
-pub moving-switched : (s : Values) (xs : List Line) (d : Decision) (to code : ℕ) → orStay d ≡ change (s .control .state) to code
-    → moving s xs d ≡ owing (withControl s (switchedTo (s .control) to)) 3 (xs ++ when (not (eqb (s .control .state) to)) (lineNow s code ∷ []))
-moving-switched s xs d to code e = either-way d ∙ ap (moving s xs) e ∙ go (eqb (s .control .state) to) refl
+-- a decision that carries out a change: the control, the line behind those already owed, and the letter
+pub moving-switched : (s : Values) (xs : List Line) (d : Decision) (to code : ℕ) (l : Letter) → orStay d ≡ change (s .control .state) to code l
+    → moving s xs d
+    ≡ lettered (cond (not (eqb (s .control .state) to)) l None)
+    (owing (withControl s (switchedTo (s .control) to)) 3 (xs ++ when (not (eqb (s .control .state) to)) (lineNow s code ∷ [])))
+moving-switched s xs d to code l e = either-way d ∙ ap (moving s xs) e ∙ go (eqb (s .control .state) to) refl
   where
     either-way : (d : Decision) → moving s xs d ≡ moving s xs (orStay d)
-    either-way (Move t c o) = refl
+    either-way (Move t c o x) = refl
     either-way Stay = refl
     either-way NotListed = refl
 
     go : (x : Bool) → eqb (s .control .state) to ≡ x
-        → moving s xs (cond x Stay (Move to code (eqb (s .control .state) 1)))
-        ≡ owing (withControl s (switchedTo (s .control) to)) 3 (xs ++ when (not x) (lineNow s code ∷ []))
+        → moving s xs (cond x Stay (Move to code (eqb (s .control .state) 1) l))
+        ≡ lettered (cond (not x) l None) (owing (withControl s (switchedTo (s .control) to)) 3 (xs ++ when (not x) (lineNow s code ∷ [])))
     go true q = rw (← eqb-true (s .control .state) to q, stays-in (s .control), append-nil)
     go false q = rw (leaves-one (s .control .state) to q)
 
@@ -294,32 +258,32 @@ switched-control m from to n = ap (controlIn m to) (held-next (opens from to) n)
 
 pub requested-result : (f : AnyFresh) (h : History) (q : RequestCall) (n : ℕ) → Proper (modeOf f h) (requested q)
     → effectResult (heldValues f h (held n)) (requested q)
-    ≡ owing
+    ≡ lettered (letterOf f (requested q) h) (owing
     (withControl
     (withLimiters (heldValues f h (held n)) (heldLimiters f (requested q ∷ h)))
     (heldControl f (requested q ∷ h) (held (nextOpenings f (requested q) h n))))
     3
-    (when (moves f (requested q) h) (line (clockOf f h) (requestCode q (switchOf f (requested q ∷ h))) ∷ []))
+    (when (moves f (requested q) h) (line (clockOf f h) (requestCode q (switchOf f (requested q ∷ h))) ∷ [])))
 unfolding last observations
 requested-result f h q n p =
     let s = withLimiters (heldValues f h (held n)) (heldLimiters f (requested q ∷ h)) in
     let to = switchOf f (requested q ∷ h) in
-    moving-switched s [] (decided s (requestOf q)) to (requestCode q to) (request-switches f h q p)
-    ∙ ap (λ c. owing (withControl s c) 3 (when (moves f (requested q) h) (lineNow s (requestCode q to) ∷ [])))
+    moving-switched s [] (decided s (requestOf q)) to (requestCode q to) (requestLetter q (switchOf f h) to) (request-switches f h q p)
+    ∙ ap (λ c. lettered (letterOf f (requested q) h) (owing (withControl s c) 3 (when (moves f (requested q) h) (lineNow s (requestCode q to) ∷ []))))
     (switched-control (modeOf f h) (switchOf f h) to n)
 
 pub mode-result : (f : AnyFresh) (h : History) (m n : ℕ)
     → effectResult (heldValues f h (held n)) (modeSet m)
-    ≡ owing
+    ≡ lettered (letterOf f (modeSet m) h) (owing
     (withControl (heldValues f h (held n)) (heldControl f (modeSet m ∷ h) (held (nextOpenings f (modeSet m) h n))))
     3
-    (when (moves f (modeSet m) h) (line (clockOf f h) 63 ∷ []))
+    (when (moves f (modeSet m) h) (line (clockOf f h) 63 ∷ [])))
 unfolding last
 mode-result f h m n =
     let s = withControl (heldValues f h (held n)) (controlIn m (switchOf f h) (held n)) in
     let to = switchOf f (modeSet m ∷ h) in
-    moving-switched s [] (modeDecision m (switchOf f h)) to 63 (mode-switches f h m)
-    ∙ ap (λ c. owing (withControl s c) 3 (when (moves f (modeSet m) h) (lineNow s 63 ∷ [])))
+    moving-switched s [] (modeDecision m (switchOf f h)) to 63 None (mode-switches f h m)
+    ∙ ap (λ c. lettered (letterOf f (modeSet m) h) (owing (withControl s c) 3 (when (moves f (modeSet m) h) (lineNow s 63 ∷ []))))
     (switched-control m (switchOf f h) to n)
 
 -- ---- a sample: what is fired, and what is tried
@@ -371,20 +335,22 @@ module _ (f : AnyFresh) (h : History) (ps : List ℤ) where
 
 after-sample : (s : Values) (ws : List Watched) (g h : Bool) (xs : List Line) (to : ℕ) → disconnectTried ws ≡ g → reconnectTried ws ≡ h
     → gathered (firedLines s) ws ≡ xs
-    → (g ≡ true → orStay (decided s request.LocalDisconnect) ≡ change (s .control .state) to (localCode to))
-    → (g ≡ false → h ≡ true → orStay (decided s request.LocalReconnect) ≡ change (s .control .state) to (localCode to))
+    → (g ≡ true → orStay (decided s request.LocalDisconnect) ≡ change (s .control .state) to (localCode to) (localLetter to))
+    → (g ≡ false → h ≡ true → orStay (decided s request.LocalReconnect) ≡ change (s .control .state) to (localCode to) (localLetter to))
     → (g ≡ false → h ≡ false → to ≡ s .control .state)
     → afterSample s ws
-    ≡ owing (withControl s (switchedTo (s .control) to)) 3 (xs ++ when (not (eqb (s .control .state) to)) (lineNow s (localCode to) ∷ []))
+    ≡ lettered (cond (not (eqb (s .control .state) to)) (localLetter to) None)
+    (owing (withControl s (switchedTo (s .control) to)) 3 (xs ++ when (not (eqb (s .control .state) to)) (lineNow s (localCode to) ∷ [])))
 after-sample s ws true h xs to p q r over under stays =
-    rw (p, r) (moving-switched s xs (decided s request.LocalDisconnect) to (localCode to) (over refl))
+    rw (p, r) (moving-switched s xs (decided s request.LocalDisconnect) to (localCode to) (localLetter to) (over refl))
 after-sample s ws false true xs to p q r over under stays =
-    rw (p, q, r) (moving-switched s xs (decided s request.LocalReconnect) to (localCode to) (under refl refl))
+    rw (p, q, r) (moving-switched s xs (decided s request.LocalReconnect) to (localCode to) (localLetter to) (under refl refl))
 after-sample s ws false false xs to p q r over under stays =
-    rw (p, q, r) (moving-switched s xs Stay to (localCode to) (unchanged (s .control .state) to (localCode to) (stays refl refl)))
+    rw (p, q, r)
+    (moving-switched s xs Stay to (localCode to) (localLetter to) (unchanged (s .control .state) to (localCode to) (localLetter to) (stays refl refl)))
   where
-    unchanged : (from to code : ℕ) → to ≡ from → Stay ≡ change from to code
-    unchanged from to code e = rw (e, eq-eqb from from refl)
+    unchanged : (from to code : ℕ) (x : Letter) → to ≡ from → Stay ≡ change from to code x
+    unchanged from to code x e = rw (e, eq-eqb from from refl)
 
 -- the values after a sample, with the clock's next value as the machine has it
 abbrev pub sampledValues : AnyFresh → History → List ℤ → ℕ → Values
@@ -395,9 +361,9 @@ sampledValues f h ps n =
 
 pub sampled-result : (f : AnyFresh) (h : History) (ps : List ℤ) (n : ℕ) → AnySettings f → AllProper f h
     → effectResult (heldValues f h (held n)) (sampled ps)
-    ≡ owing (sampledValues f h ps n) 3
+    ≡ lettered (letterOf f (sampled ps) h) (owing (sampledValues f h ps n) 3
     (owedFirings f h ps (held (clockOf f h + 1))
-    ++ when (moves f (sampled ps) h) (line (held (clockOf f h + 1)) (localCode (switchOf f (sampled ps ∷ h))) ∷ []))
+    ++ when (moves f (sampled ps) h) (line (held (clockOf f h + 1)) (localCode (switchOf f (sampled ps ∷ h))) ∷ [])))
 unfolding last sampleResult
 sampled-result f h ps n s a =
     let now = held (clockOf f h + 1) in
@@ -410,7 +376,8 @@ sampled-result f h ps n s a =
     ∙ after-sample next ws (triedG f h ps) (triedH f h ps) (owedFirings f h ps now) to
     (tries-g f h ps) (tries-h f h ps) (fires-lines f h ps next)
     (over-switches f h ps s a) (under-switches f h ps s a) (sample-switches f h ps)
-    ∙ ap (λ c. owing (withControl next c) 3 (owedFirings f h ps now ++ when (moves f (sampled ps) h) (line now (localCode to) ∷ [])))
+    ∙ ap (λ c. lettered (letterOf f (sampled ps) h)
+    (owing (withControl next c) 3 (owedFirings f h ps now ++ when (moves f (sampled ps) h) (line now (localCode to) ∷ []))))
     (switched-control (modeOf f h) (switchOf f h) to n)
 
 -- ---- control and limiter after any accepted call
@@ -447,3 +414,23 @@ limiters-after f h (filterSet errors m) n s a k = refl
 limiters-after f h (bitsCleared alarms m) n s a k = refl
 limiters-after f h (bitsCleared errors m) n s a k = refl
 limiters-after f h (logCleared m) n s a k = refl
+
+-- where the switch stays there is no letter
+no-letter : (s : ℕ) → None ≡ cond (not (eqb s s)) None None
+no-letter s = rw (eq-eqb s s refl)
+
+-- the letter of any accepted call
+pub letter-after : (f : AnyFresh) (h : History) (e : Effect) (n : ℕ) → AnySettings f → AllProper f h → Proper (modeOf f h) e
+    → effectResult (heldValues f h (held n)) e .letter ≡ letterOf f e h
+unfolding last spell switchOf
+letter-after f h (sampled ps) n s a k = ap (λ (r : Change). r .letter) (sampled-result f h ps n s a)
+letter-after f h (requested q) n s a k = ap (λ (r : Change). r .letter) (requested-result f h q n k)
+letter-after f h (modeSet m) n s a k = ap (λ (r : Change). r .letter) (mode-result f h m n)
+letter-after f h (limitsSet ts o u) n s a k = no-letter (switchOf f h)
+letter-after f h (clockSet m) n s a k = no-letter (switchOf f h)
+letter-after f h (occurred r) n s a k = no-letter (switchOf f h)
+letter-after f h (filterSet alarms m) n s a k = no-letter (switchOf f h)
+letter-after f h (filterSet errors m) n s a k = no-letter (switchOf f h)
+letter-after f h (bitsCleared alarms m) n s a k = no-letter (switchOf f h)
+letter-after f h (bitsCleared errors m) n s a k = no-letter (switchOf f h)
+letter-after f h (logCleared m) n s a k = no-letter (switchOf f h)

@@ -20,6 +20,8 @@ use Rattle.limiter.specs.declared.Limiter.{Limiter}
 use Rattle.limiter.specs.declared.Watched.{Watched}
 use Rattle.limiter.specs.Limiter.{sampledPower, withSettings}
 use Rattle.logs.specs.Lists.{appended, emptied}
+use Rattle.calls.specs.declared.Letter.{Letter}
+use Rattle.calls.specs.declared.Letter.the-variants.{None}
 use Rattle.calls.specs.declared.Answer.{Answer}
 use Rattle.calls.specs.declared.Answer.the-variants.{Accepted, Refused}
 use Rattle.history.specs.Effects.{RequestCall, remoteDisconnect, remoteReconnect, manualDisconnect, manualReconnect, WhichRegister, alarms, errors}
@@ -28,9 +30,11 @@ use Rattle.history.specs.Last.{numberAt}
 use Rattle.machine.specs.Settings.{limitsAnswer}
 use Rattle.machine.specs.Values.{Values, State, withControl, withLimiters, withClock, withAlarms, withErrors}
 
--- what an accepted call makes of the values: the next ones, a log that it clears (0: none), and the lines that it owes to a log
+-- what an accepted call makes of the values: the next ones, the letter of the move that it made, a log that it clears (0: none), and the lines that it
+-- owes to a log
 pub record Change : Type 0 where
   pub values : Values
+  pub letter : Letter
   pub cleared : ℕ
   pub log : ℕ
   pub lines : List Line
@@ -40,9 +44,13 @@ pub data Result : Type 0 where
   refusing : ℕ → Result
   making : Change → Result
 
--- the next values, with lines owed to log n
+-- the next values, with lines owed to log n; no move was made
 abbrev pub owing : Values → ℕ → List Line → Change
-owing v n xs = record { values = v; cleared = 0; log = n; lines = xs }
+owing v n xs = record { values = v; letter = None; cleared = 0; log = n; lines = xs }
+
+-- the same of a move: document 02, A2: '.. every call hands the letter on beside its answer'
+abbrev pub lettered : Letter → Change → Change
+lettered x k = record { values = k .values; letter = x; cleared = k .cleared; log = k .log; lines = k .lines }
 
 -- 'Every line not otherwise described bears the clock after the call'
 abbrev pub lineNow : Values → ℕ → Line
@@ -50,7 +58,7 @@ lineNow v c = line (v .clock) c
 
 -- ---- the switch: a decision carried out, its line behind those already owed to log 3
 abbrev pub moving : Values → List Line → Decision → Change
-moving v xs (Move t c o) = owing (withControl v (movedTo (v .control) t o)) 3 (xs ++ (lineNow v c ∷ []))
+moving v xs (Move t c o x) = lettered x (owing (withControl v (movedTo (v .control) t o)) 3 (xs ++ (lineNow v c ∷ [])))
 moving v xs Stay = owing v 3 xs
 moving v xs NotListed = owing v 3 xs
 
@@ -60,7 +68,7 @@ decided v q = decision switchTable q (v .control .mode) (v .control .state)
 
 -- calls 2 to 5: 'mode rule | 2 | .. mode not in the switch table for that request'
 abbrev pub answering : Values → Decision → Result
-answering v (Move t c o) = making (moving v [] (Move t c o))
+answering v (Move t c o x) = making (moving v [] (Move t c o x))
 answering v Stay = making (moving v [] Stay)
 answering v NotListed = refusing 2
 
@@ -155,7 +163,7 @@ clearResult v errors n = owing (withErrors v (cleared (v .errors) n)) 1 (lineNow
 unfoldable pub clearLogResult : Values → ℕ → Result
 clearLogResult v n =
     cond (isLog n)
-    (making (record { values = v; cleared = n; log = n; lines = lineNow v 255 ∷ [] }))
+    (making (record { values = v; letter = None; cleared = n; log = n; lines = lineNow v 255 ∷ [] }))
     (refusing 7)
 
 -- ---- call 15: '1 is call 2, 2 is call 3'; '3 | not 1 or 2'

@@ -8,8 +8,8 @@ use Rattle.events.proofs.Rule.{built-in-lawful}
 use Rattle.meter.specs.Laws.{LawsOf, Laws}
 use Rattle.meter.proofs.Values.{record-of-state, state-of-record}
 use Rattle.meter.proofs.Tail.{in-parts, sound-in-parts, command-in-parts}
-use Rattle.meter.proofs.Preserved.{applied-answer, refused-same, commanded-same, applied-sound}
-use Rattle.meter.proofs.Simulates.{simulates, reached-sound}
+use Rattle.meter.proofs.Preserved.{applied-answer, refused-same, refused-letter, commanded-same, applied-sound}
+use Rattle.meter.proofs.Simulates.{simulates, letters, reached-sound}
 
 laws-of : (rows : List EventRow) → every lawful rows ≡ true → LawsOf rows
 laws-of rows table =
@@ -23,8 +23,10 @@ laws-of rows table =
       answers = applied-answer rows;
       refused-same = refused-same rows;
       command-refused-same = commanded-same rows;
+      refused-letter = refused-letter rows;
       reached-sound = λ f calls t i. reached-sound rows table f t calls i;
       simulates = λ f calls t i. simulates rows table f t calls i;
+      letters = λ f calls c t i. letters rows table f t calls c i;
     }
 
 -- of the meter with the table of document 01

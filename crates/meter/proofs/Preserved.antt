@@ -17,6 +17,7 @@ use Rattle.logs.proofs.Kept.{length-changed, changed-short}
 use Rattle.calls.specs.declared.Call.{Call}
 use Rattle.calls.specs.Calls.{InRange, callOf}
 use Rattle.calls.specs.declared.Answer.the-variants.{Refused}
+use Rattle.calls.specs.declared.Letter.the-variants.{None}
 use Rattle.calls.specs.declared.Command.{Command}
 use Rattle.calls.specs.declared.Parsed.{Parsed}
 use Rattle.calls.specs.declared.Parsed.the-variants.{Ok, NoKind}
@@ -24,7 +25,7 @@ use Rattle.history.specs.OnePhase.{asCall}
 use Rattle.history.specs.Effects.{Reading, refused, accepted, reading}
 use Rattle.machine.specs.Sound.{soundState}
 use Rattle.machine.specs.Machine.{Change, Result, refusing, making, stateAfter, result}
-use Rattle.machine.specs.Laws.{afterResult}
+use Rattle.machine.specs.Laws.{afterResult, letterIn}
 use Rattle.machine.proofs.Answers.{either, by-reading}
 use Rattle.machine.proofs.Preserved.{kept-sound}
 use Rattle.machine.proofs.Number.{number-kept}
@@ -56,11 +57,21 @@ kept-same : (m : Meter) (r : Result) (n : ℕ) → carriedOut m r .answer ≡ Re
 kept-same m (refusing k) n h = refl
 kept-same m (making k) n h = cc
 
+no-letter : (m : Meter) (r : Result) (n : ℕ) → carriedOut m r .answer ≡ Refused n → carriedOut m r .letter ≡ None
+no-letter m (refusing k) n h = refl
+no-letter m (making k) n h = absurd (let z : _≡_ {A = ℕ} 0 1 = cc in omega arith)
+
 module _ (rows : List EventRow) (m : Meter) where
   pub refused-same : (c : Call) (n : ℕ) → applied rows m c .answer ≡ Refused n → applied rows m c .meter ≡ m
   unfolding applied
   refused-same c n =
       either (λ (o : Outcome). o .answer ≡ Refused n → o .meter ≡ m) (soundMeter rows m) (λ e h. kept-same m (resultOf rows (scalarsOf m) c) n h) (λ e h. refl)
+
+  pub refused-letter : (c : Call) (n : ℕ) → applied rows m c .answer ≡ Refused n → applied rows m c .letter ≡ None
+  unfolding applied
+  refused-letter c n =
+      either (λ (o : Outcome). o .answer ≡ Refused n → o .letter ≡ None) (soundMeter rows m)
+      (λ e h. no-letter m (resultOf rows (scalarsOf m) c) n h) (λ e h. refl)
 
   performed-same : (p : Parsed) (n : ℕ) → performed rows m p .answer ≡ Refused n → performed rows m p .meter ≡ m
   performed-same (Ok c) n h = refused-same c n h
@@ -81,6 +92,17 @@ applied-state rows v one e c =
   where
     go : (r : Result) → carriedOut (recordOf v) r .meter ≡ recordOf (afterResult (stateOf (recordOf v)) r)
     go (refusing n) = ap recordOf (sym (state-of-record rows v one e))
+    go (making k) = refl
+
+pub applied-letter : (rows : List EventRow) (v : State) → length (v .values .limiters) ≡ 1 → soundState rows v ≡ true → (c : Call)
+    → applied rows (recordOf v) c .letter ≡ letterIn (result rows (v .values) (asCall c))
+unfolding applied
+applied-letter rows v one e c =
+    rw (record-sound rows v one e)
+    (go (resultOf rows (scalarsOf (recordOf v)) c) ∙ ap (λ (w : State). letterIn (result rows (w .values) (asCall c))) (state-of-record rows v one e))
+  where
+    go : (r : Result) → carriedOut (recordOf v) r .letter ≡ letterIn r
+    go (refusing n) = refl
     go (making k) = refl
 
 -- ---- every call keeps a sound record sound

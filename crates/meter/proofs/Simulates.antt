@@ -8,22 +8,22 @@ use Rattle.calls.specs.declared.Call.{Call}
 use Rattle.calls.specs.Calls.{AllInRange}
 use Rattle.history.specs.Effects.{AnyCall}
 use Rattle.history.specs.Account.{acceptedCalls, openings, accountAfter}
-use Rattle.history.specs.OnePhase.{Fresh, asFresh, asCall, account}
+use Rattle.history.specs.OnePhase.{Fresh, asFresh, asCall, account, letter}
 use Rattle.machine.specs.Values.{State}
 use Rattle.machine.specs.Sound.{soundState}
 use Rattle.machine.specs.Ranges.{AllAnyInRange}
 use Rattle.machine.specs.Holding.{valuesHolding}
-use Rattle.machine.proofs.Simulates.{fresh-values, next, named-sound}
+use Rattle.machine.proofs.Simulates.{fresh-values, next, named-sound, named-letter}
 use Rattle.meter.specs.declared.Meter.{Meter}
 use Rattle.meter.specs.State.{recordOf}
 use Rattle.meter.specs.Sound.{soundMeter}
-use Rattle.meter.specs.Machine.{recordAfter}
+use Rattle.meter.specs.Machine.{applied, recordAfter}
 use Rattle.meter.specs.Settings.{Settings}
 use Rattle.meter.specs.Fresh.{freshState}
 use Rattle.meter.specs.Holding.{holding}
 use Rattle.meter.proofs.Values.{record-sound}
 use Rattle.meter.proofs.Ranges.{settings, call-range, calls-range}
-use Rattle.meter.proofs.Preserved.{applied-state}
+use Rattle.meter.proofs.Preserved.{applied-state, applied-letter}
 
 module _ (rows : List EventRow) (table : every lawful rows ≡ true) (f : Fresh) (t : Settings f) where
   -- the values that the account of a list names; newest call first
@@ -48,6 +48,18 @@ module _ (rows : List EventRow) (table : every lawful rows ≡ true) (f : Fresh)
   unfolding acceptedCalls openings numbersFrom
   simulates calls i =
       ap (λ (v : State). recordAfter rows (recordOf v) calls) (fresh-values (asFresh f) (settings f t)) ∙ holds-from [] calls tt i
+
+  -- the letter of one more call is the account's
+  pub letters : (calls : List Call) (c : Call) → AllInRange (c ∷ calls)
+      → applied rows (recordAfter rows (recordOf (freshState f)) calls) c .letter ≡ letter rows f calls c
+  unfolding numbersFrom
+  letters calls c i =
+      let g = settings f t in
+      let cs = reverse (map asCall calls) in
+      let r = calls-range calls (i .1) in
+      ap (λ (m : Meter). applied rows m c .letter) (simulates calls (i .1))
+      ∙ applied-letter rows (named cs) refl (named-sound rows table (asFresh f) g cs r) c
+      ∙ named-letter rows table (asFresh f) g (asCall c) cs (call-range c (i .0)) r
 
   -- and its values are sound
   pub account-sound : (calls : List Call) → AllInRange calls → soundState rows (holding (account rows f calls)) ≡ true

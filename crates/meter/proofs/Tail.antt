@@ -33,7 +33,7 @@ use Rattle.meter.specs.declared.Meter.{Meter}
 use Rattle.meter.specs.declared.Outcome.{Outcome}
 use Rattle.meter.specs.State.{scalarsOf, withLogs}
 use Rattle.meter.specs.Sound.{soundMeter}
-use Rattle.meter.specs.Machine.{carriedOut, applied, performed, commanded}
+use Rattle.meter.specs.Machine.{refusedWith, carriedOut, applied, performed, commanded}
 use Rattle.meter.specs.Parts.{outcomeOf, arraysAfter, leftIn, carriedOutInParts, appliedInParts, performedInParts, commandedInParts}
 
 -- ---- the lines of a step, as the code has them
@@ -51,7 +51,7 @@ unfolding soundMeter soundLogs
 sound-is rows m a b p q = rw (p, q)
 
 pub applied-by : (rows : List EventRow) (m : Meter) (c : Call) (b : Bool) → soundMeter rows m ≡ b
-    → cond b (carriedOutInParts rows m c) (record { meter = m; answer = Refused 12 }) ≡ appliedInParts rows m c
+    → cond b (carriedOutInParts rows m c) (refusedWith m 12) ≡ appliedInParts rows m c
 unfolding appliedInParts
 applied-by rows m c b e = rw e
 
@@ -72,7 +72,7 @@ module _ (rows : List EventRow) (g : Logs) (z : Sized g) (e : soundLogs rows g �
 abbrev leftBy : Meter → Step → Outcome
 leftBy m x =
     let h = extendedArrays (x .log) (take (x .count) (x .clocks)) (take (x .count) (x .codes)) (zeroedArrays (x .cleared) (m .logs)) in
-    outcomeOf (record { scalars = x .scalars; answer = x .answer }) (h .counts) (h .clocks) (h .codes)
+    outcomeOf (record { scalars = x .scalars; answer = x .answer; letter = x .letter }) (h .counts) (h .clocks) (h .codes)
 
 -- a step that clears no log and owes no line leaves the arrays
 nothing-owed : (m : Meter) (n : ℕ) → leftBy m (stepOf (scalarsOf m) (refusing n)) ≡ leftIn m (refusing n)
@@ -83,7 +83,7 @@ nothing-owed m n = refl
 pub finished : (rows : List EventRow) (m : Meter) (c : Call) (s : Step) (g₀ g : Logs)
     → s ≡ stepOf (scalarsOf m) (resultOf rows (scalarsOf m) c) → g₀ ≡ zeroedArrays (s .cleared) (m .logs)
     → g ≡ extendedArrays (s .log) (take (s .count) (s .clocks)) (take (s .count) (s .codes)) g₀
-    → outcomeOf (record { scalars = s .scalars; answer = s .answer }) (g .counts) (g .clocks) (g .codes) ≡ carriedOutInParts rows m c
+    → outcomeOf (record { scalars = s .scalars; answer = s .answer; letter = s .letter }) (g .counts) (g .clocks) (g .codes) ≡ carriedOutInParts rows m c
 finished rows m c s g₀ g steps clears adds = rw (adds, clears, steps) (go (resultOf rows (scalarsOf m) c))
   where
     go : (r : Result) → leftBy m (stepOf (scalarsOf m) r) ≡ leftIn m r

@@ -4,11 +4,13 @@ use Prim.Native.Nat.{ℕ}
 use lib.IntN.{pos}
 use Rattle.calls.specs.declared.Answer.{Answer}
 use Rattle.calls.specs.declared.Answer.the-variants.{Accepted, Refused}
+use Rattle.calls.specs.declared.Letter.the-variants.{None}
 use Rattle.history.specs.OnePhase.{Fresh, asFresh}
 use Rattle.machine.specs.Values.{State}
 use Rattle.machine.specs.Fresh.{freshValues}
 use Rattle.meter.specs.declared.Outcome.{Outcome}
 use Rattle.meter.specs.State.{recordOf}
+use Rattle.meter.specs.Machine.{refusedWith}
 use Rattle.meter.specs.Settings.{settingsOf, freshAnswer, Settings, SettingsInRange}
 
 -- 'switch 1, not Exceeded, all else zero or empty'
@@ -21,7 +23,7 @@ leastSettings = settingsOf 0 (pos 0) 1 1 0
 
 -- 'A refused fresh or reader returns the meter of mode 0, threshold 0, durations 1, clock 0.'
 abbrev pub refusedOutcome : ℕ → Outcome
-refusedOutcome n = record { meter = recordOf (freshState leastSettings); answer = Refused n }
+refusedOutcome n = refusedWith (recordOf (freshState leastSettings)) n
 
 -- the settings of the meter that fresh hands back
 abbrev pub settingsBy : Answer → Fresh → Fresh
@@ -30,7 +32,7 @@ settingsBy (Refused n) f = leastSettings
 
 -- fresh: the meter of its settings, or a refusal's
 abbrev pub freshOf : Fresh → Outcome
-freshOf f = record { meter = recordOf (freshState (settingsBy (freshAnswer f) f)); answer = freshAnswer f }
+freshOf f = record { meter = recordOf (freshState (settingsBy (freshAnswer f) f)); answer = freshAnswer f; letter = None }
 
 -- what fresh accepts and refuses
 pub record FreshLaws : Type 0 where

@@ -1,7 +1,7 @@
 -- What holds of the machine: what a reader wants beside the definitions.
 use mathlib.Core.Path.{_≡_}
 use mathlib.Core.Bool.{true}
-use mathlib.Core.List.{List}
+use mathlib.Core.List.{List, _∷_}
 use Prim.Native.Nat.{ℕ}
 use lib.ListN.{length}
 use Rattle.base.specs.Tests.{every}
@@ -10,10 +10,11 @@ use Rattle.logs.specs.Layout.{Sized}
 use Rattle.calls.specs.declared.Call.{Call}
 use Rattle.calls.specs.declared.Answer.{Answer}
 use Rattle.calls.specs.declared.Answer.the-variants.{Accepted, Refused}
+use Rattle.calls.specs.declared.Letter.the-variants.{None}
 use Rattle.calls.specs.declared.Command.{Command}
 use Rattle.calls.specs.Calls.{InRange, AllInRange}
 use Rattle.history.specs.Effects.{Reading, refused, accepted, reading}
-use Rattle.history.specs.OnePhase.{Fresh, asCall, account}
+use Rattle.history.specs.OnePhase.{Fresh, asCall, account, letter}
 use Rattle.machine.specs.Sound.{soundState}
 use Rattle.machine.specs.Values.{State}
 use Rattle.meter.specs.declared.Meter.{Meter}
@@ -52,12 +53,18 @@ pub record LawsOf (rows : List EventRow) : Type 0 where
       → applied rows m c .meter ≡ m
   pub command-refused-same : (m : Meter) (c : Command) (n : ℕ) → commanded rows m c .answer ≡ Refused n
       → commanded rows m c .meter ≡ m
+  -- document 02, A2: '.. none, and so does a call that is refused ..', whatever the record
+  pub refused-letter : (m : Meter) (c : Call) (n : ℕ) → applied rows m c .answer ≡ Refused n
+      → applied rows m c .letter ≡ None
   -- after any list of calls from accepted fresh settings, refused calls among them, the record is sound: 12 never comes
   pub reached-sound : (f : Fresh) (calls : List Call) → Settings f → AllInRange calls
       → soundMeter rows (recordAfter rows (recordOf (freshState f)) calls) ≡ true
   -- and it is the record that holds the account
   pub simulates : (f : Fresh) (calls : List Call) → Settings f → AllInRange calls
       → recordAfter rows (recordOf (freshState f)) calls ≡ recordOf (holding (account rows f calls))
+  -- document 02, A2: the letter of one more call is the one that the account gives: by its switch before and after the call, and the call itself
+  pub letters : (f : Fresh) (calls : List Call) (c : Call) → Settings f → AllInRange (c ∷ calls)
+      → applied rows (recordAfter rows (recordOf (freshState f)) calls) c .letter ≡ letter rows f calls c
 
 -- of every event table whose rows are lawful, and the built-in one is such a table
 abbrev pub Laws : Type 0

@@ -1,9 +1,11 @@
 -- The machine on the meter's record: the calls of document 01's meter, one behind the other.
+use Prim.Native.Nat.{ℕ}
 use mathlib.Core.Bool.{cond}
 use mathlib.Core.List.{List, [], _∷_}
 use Rattle.events.specs.Table.{EventRow}
 use Rattle.calls.specs.declared.Call.{Call}
 use Rattle.calls.specs.declared.Answer.the-variants.{Accepted, Refused}
+use Rattle.calls.specs.declared.Letter.the-variants.{None}
 use Rattle.calls.specs.declared.Command.{Command}
 use Rattle.calls.specs.declared.Parsed.{Parsed}
 use Rattle.calls.specs.declared.Parsed.the-variants.{Ok, NoKind}
@@ -15,19 +17,23 @@ use Rattle.meter.specs.declared.Outcome.{Outcome}
 use Rattle.meter.specs.State.{stateOf, scalarsOf, recordOf}
 use Rattle.meter.specs.Sound.{soundMeter}
 
--- what a call makes of a sound record: refused, it is the one that came in
+-- refused: 'the record comes back unchanged' (demand 1), and no letter
+abbrev pub refusedWith : Meter → ℕ → Outcome
+refusedWith m n = record { meter = m; answer = Refused n; letter = None }
+
+-- what a call makes of a sound record; document 02, A2: '.. every call hands the letter on beside its answer'
 abbrev pub carriedOut : Meter → Result → Outcome
-carriedOut m (refusing n) = record { meter = m; answer = Refused n }
-carriedOut m (making k) = record { meter = recordOf (stateAfter (stateOf m) k); answer = Accepted }
+carriedOut m (refusing n) = refusedWith m n
+carriedOut m (making k) = record { meter = recordOf (stateAfter (stateOf m) k); answer = Accepted; letter = k .letter }
 
 -- a call on a record: 'record | 12 | not sound; every call', which comes back as it was
 unfoldable pub applied : List EventRow → Meter → Call → Outcome
-applied rows m c = cond (soundMeter rows m) (carriedOut m (resultOf rows (scalarsOf m) c)) (record { meter = m; answer = Refused 12 })
+applied rows m c = cond (soundMeter rows m) (carriedOut m (resultOf rows (scalarsOf m) c)) (refusedWith m 12)
 
 -- 'kind | 13 | not 1–15; the command's reading fails before the record is touched'
 abbrev pub performed : List EventRow → Meter → Parsed → Outcome
 performed rows m (Ok c) = applied rows m c
-performed rows m NoKind = record { meter = m; answer = Refused 13 }
+performed rows m NoKind = refusedWith m 13
 
 -- a command on a record
 unfoldable pub commanded : List EventRow → Meter → Command → Outcome

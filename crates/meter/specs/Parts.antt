@@ -8,7 +8,7 @@ use Rattle.events.specs.Table.{EventRow}
 use Rattle.logs.specs.declared.Logs.{Logs}
 use Rattle.logs.specs.Layout.{lineClock, lineCode, extendedArrays, zeroedArrays}
 use Rattle.calls.specs.declared.Call.{Call}
-use Rattle.calls.specs.declared.Answer.the-variants.{Accepted, Refused}
+use Rattle.calls.specs.declared.Answer.the-variants.{Accepted}
 use Rattle.calls.specs.declared.Command.{Command}
 use Rattle.calls.specs.declared.Parsed.{Parsed}
 use Rattle.calls.specs.declared.Parsed.the-variants.{Ok, NoKind}
@@ -22,18 +22,19 @@ use Rattle.meter.specs.declared.Outcome.{Outcome}
 use Rattle.meter.specs.declared.parts.Answered.{Answered}
 use Rattle.meter.specs.State.{scalarsOf, withLogs}
 use Rattle.meter.specs.Sound.{soundMeter}
+use Rattle.meter.specs.Machine.{refusedWith}
 
 -- an array that is lent for writing: as it was at the call, and as it is left
 abbrev pub Lent : Type 0
 Lent = Both (RefT (List ℕ)) (RefT (List ℕ))
 
 -- the record of these scalars and the arrays as they were
-abbrev pub given : Scalars → Lent → Lent → Lent → Meter
-given s counts clocks codes = withLogs s (now (counts .entry)) (now (clocks .entry)) (now (codes .entry))
+abbrev pub recordGiven : Scalars → Lent → Lent → Lent → Meter
+recordGiven s counts clocks codes = withLogs s (now (counts .entry)) (now (clocks .entry)) (now (codes .entry))
 
 -- the outcome of what a call on a record in parts answers and these arrays
 abbrev pub outcomeOf : Answered → List ℕ → List ℕ → List ℕ → Outcome
-outcomeOf a counts clocks codes = record { meter = withLogs (a .scalars) counts clocks codes; answer = a .answer }
+outcomeOf a counts clocks codes = record { meter = withLogs (a .scalars) counts clocks codes; answer = a .answer; letter = a .letter }
 
 -- and the arrays as they are left
 abbrev pub handedBack : Answered → Lent → Lent → Lent → Outcome
@@ -45,10 +46,10 @@ arraysAfter g k = extendedArrays (k .log) (map lineClock (k .lines)) (map lineCo
 
 -- the record of a change's scalars and those arrays; refused, the record that came in
 abbrev pub leftIn : Meter → Result → Outcome
-leftIn m (refusing n) = record { meter = m; answer = Refused n }
+leftIn m (refusing n) = refusedWith m n
 leftIn m (making k) =
     let g = arraysAfter (m .logs) k in
-    record { meter = withLogs (scalarsFrom (k .values)) (g .counts) (g .clocks) (g .codes); answer = Accepted }
+    record { meter = withLogs (scalarsFrom (k .values)) (g .counts) (g .clocks) (g .codes); answer = Accepted; letter = k .letter }
 
 -- a call carried out on a record in parts, whether it is sound or not
 abbrev pub carriedOutInParts : List EventRow → Meter → Call → Outcome
@@ -56,12 +57,12 @@ carriedOutInParts rows m c = leftIn m (resultOf rows (scalarsOf m) c)
 
 -- a call on a record in parts, which is tested; of arrays of their types' lengths it is the machine's (see Laws)
 unfoldable pub appliedInParts : List EventRow → Meter → Call → Outcome
-appliedInParts rows m c = cond (soundMeter rows m) (carriedOutInParts rows m c) (record { meter = m; answer = Refused 12 })
+appliedInParts rows m c = cond (soundMeter rows m) (carriedOutInParts rows m c) (refusedWith m 12)
 
 -- what a command names, carried out: 'kind | 13 | not 1–15'
 abbrev pub performedInParts : List EventRow → Meter → Parsed → Outcome
 performedInParts rows m (Ok c) = carriedOutInParts rows m c
-performedInParts rows m NoKind = record { meter = m; answer = Refused 13 }
+performedInParts rows m NoKind = refusedWith m 13
 
 -- a command carried out on a record in parts, whether it is sound or not
 unfoldable pub commandedInParts : List EventRow → Meter → Command → Outcome

@@ -6,6 +6,7 @@ ghost use Rattle.meter.specs.Settings.{settingsOf};
 use crate::Meter;
 use crate::Outcome;
 use calls::Answer;
+use calls::Letter;
 use control::Control;
 use limiter::Limiter;
 use logs::Logs;
@@ -49,6 +50,7 @@ impl Outcome {
         Outcome {
             meter,
             answer: Answer::Refused(number),
+            letter: Letter::None,
         }
     }
 }
@@ -72,6 +74,7 @@ impl Meter {
         Outcome {
             meter,
             answer: Answer::Accepted,
+            letter: Letter::None,
         }
     }
 }

@@ -16,11 +16,12 @@ use Rattle.calls.specs.declared.Call.{Call}
 use Rattle.calls.specs.declared.Answer.{Answer}
 use Rattle.calls.specs.declared.Answer.the-variants.{Accepted, Refused}
 use Rattle.calls.specs.declared.Command.{Command}
+use Rattle.calls.specs.declared.Letter.the-variants.{None}
 use Rattle.calls.specs.declared.Parsed.{Parsed}
 use Rattle.calls.specs.declared.Parsed.the-variants.{Ok, NoKind}
-use Rattle.calls.specs.Calls.{answerNumber, callOf, InRange, AllInRange}
+use Rattle.calls.specs.Calls.{answerNumber, letterByte, callOf, InRange, AllInRange}
 use Rattle.calls.proofs.Named.{laws as call-laws}
-use Rattle.history.specs.OnePhase.{Fresh, account}
+use Rattle.history.specs.OnePhase.{Fresh, account, letter}
 use Rattle.meter.specs.declared.Meter.{Meter}
 use Rattle.meter.specs.declared.Outcome.{Outcome}
 use Rattle.meter.specs.State.{recordOf}
@@ -37,7 +38,8 @@ use Rattle.page.proofs.RoundTrip as roundtrip
 use Rattle.page.proofs.Ranges.{account-typed}
 use Rattle.page.proofs.Printed.{list-written}
 use Rattle.replay.specs.Replay.{withCall, callsIn, nextOf, meterAfter}
-use Rattle.pillar.specs.Interface.{numberOr, bytesOr, keptNumber, keptPage, outcomeOn, performedNumber, performedPage, freshPage, callNumber, callPage}
+use Rattle.pillar.specs.Interface.{numberOr, bytesOr, keptNumber, keptPage, outcomeOn, performedNumber, performedPage, freshPage, callNumber}
+use Rattle.pillar.specs.Interface.{callPage, performedLetter, callLetter}
 use Rattle.pillar.proofs.Kept.{kept-refused}
 use Rattle.pillar.specs.Laws.{callPages, Laws}
 
@@ -166,14 +168,14 @@ module _ (rows : List EventRow) (table : every lawful rows ≡ true) where
         go (Refused n) e = sym (kept-refused rows o page n e .1) ∙ sym (k .back) ∙ ap pageOf (sym (meter.laws .1 rows table .command-refused-same m r n e))
 
   -- an accepted page: the record is the one in its bytes
-  accepted-in : (s : List ℕ) → readOf rows s .answer ≡ Accepted → (readOf rows s .meter ≡ meterIn s) × (layout .valid s start ≡ true)
+  accepted-in : (s : List ℕ) → readOf rows s .answer ≡ Accepted → (readOf rows s ≡ acceptedOutcome (meterIn s)) × (layout .valid s start ≡ true)
   unfolding readOf holdsSound
   accepted-in s e = go (eqb (length s) size) (hasPairs s) (layout .valid s start) (soundMeter rows (meterIn s)) e
     where
       read : Bool → Bool → Bool → Bool → Outcome
       read a b v d = cond a (cond b (cond (v && d) (acceptedOutcome (meterIn s)) (refusedOutcome 11)) (refusedOutcome 10)) (refusedOutcome 9)
 
-      go : (a b v d : Bool) → read a b v d .answer ≡ Accepted → (read a b v d .meter ≡ meterIn s) × (v ≡ true)
+      go : (a b v d : Bool) → read a b v d .answer ≡ Accepted → (read a b v d ≡ acceptedOutcome (meterIn s)) × (v ≡ true)
       go true true true true e = (refl, refl)
       go true true true false e = let z : _≡_ {A = ℕ} 0 1 = cc in absurd (omega arith)
       go true true false d e = let z : _≡_ {A = ℕ} 0 1 = cc in absurd (omega arith)
@@ -186,9 +188,10 @@ module _ (rows : List EventRow) (table : every lawful rows ≡ true) where
 
   from-page : (page : List ℕ) → Bytes page → readOf rows page .answer ≡ Accepted → Read rows page (readOf rows page .meter)
   from-page s bytes e =
-      let (same, valid) = accepted-in s e in
+      let (reads, valid) = accepted-in s e in
+      let same : readOf rows s .meter ≡ meterIn s = ap (λ (o : Outcome). o .meter) reads in
       record {
-        reads = λ i. record { meter = readOf rows s .meter; answer = e i };
+        reads = reads ∙ ap acceptedOutcome (sym same);
         back = roundtrip.page-read rows s bytes e;
         sound = roundtrip.laws .by-table rows .accepted-sound s e;
         sized = rw same (held-sized (meterIn s) (roundtrip.layout-lawful .held-read s start bytes valid));
@@ -253,17 +256,56 @@ module _ (rows : List EventRow) (table : every lawful rows ≡ true) where
       ap (soundMeter rows) (fresh-laws .accepted-meter f e)
       ∙ meter.laws .1 rows table .reached-sound f [] (fresh-laws .accepted-settings f range e) tt
 
-  account-page : (page : List ℕ) (f : Fresh) (rs : List Command) → length page ≡ size → freshOf f .answer ≡ Accepted → SettingsInRange f
-      → AllInRange (callsIn rs) → callPages rows (freshPage rows page f) rs ≡ accountPage (account rows f (callsIn rs))
-  unfolding recordAfter
-  account-page page f rs whole e range i =
-      let t = fresh-laws .accepted-settings f range e in
-      let first : freshPage rows page f ≡ pageOf (recordOf (freshState f)) =
-      kept-written rows (freshOf f) page whole e (fresh-sound f range e) ∙ ap pageOf (fresh-laws .accepted-meter f e) in
-      ap (λ (page : List ℕ). callPages rows page rs) first
-      ∙ pages-from f t rs [] i tt
-      ∙ ap pageOf (meter.laws .1 rows table .simulates f (callsIn rs) t i)
-      ∙ sym (list-written rows table f (callsIn rs) t i)
+  next-named : (m : Meter) (r : Command) (c : Call) → callOf r ≡ Ok c → nextOf rows m r ≡ applied rows m c
+  unfolding commanded
+  next-named m r c names = rw names
+
+  -- a refused call leaves no letter
+  refused-letter : (page : List ℕ) (r : Command) → Bytes page → AllInRange (withCall (callOf r) []) → (callNumber rows page r ≡ 0 → ⊥)
+      → callLetter rows page r ≡ 0
+  unfolding callLetter
+  refused-letter page r bytes i refused = go (callOf r) (readOf rows page .answer) refl refl
+    where
+      m : Meter
+      m = readOf rows page .meter
+
+      answered : (c : Call) → callOf r ≡ Ok c → readOf rows page .answer ≡ Accepted → callNumber rows page r ≡ answerNumber (applied rows m c .answer)
+      answered c names e = answer-on (from-page page bytes e) r i ∙ ap (λ (o : Outcome). answerNumber (o .answer)) (next-named m r c names)
+
+      none : (c : Call) (a : Answer) → applied rows m c .answer ≡ a → (answerNumber a ≡ 0 → ⊥) → applied rows m c .letter ≡ None
+      none c Accepted e z = absurd (z refl)
+      none c (Refused n) e z = meter.laws .1 rows table .refused-letter m c n e
+
+      go : (p : Parsed) (a : Answer) → callOf r ≡ p → readOf rows page .answer ≡ a → letterByte (performedLetter rows page p) ≡ 0
+      go NoKind a names e = refl
+      go (Ok c) (Refused n) names e = rw e
+      go (Ok c) Accepted names e =
+          rw e (ap letterByte (none c (applied rows m c .answer) refl (λ z. refused (answered c names e ∙ z))))
+
+  -- a fresh meter that is accepted, and records of calls that are in range
+  module _ (page : List ℕ) (f : Fresh) (rs : List Command) (whole : length page ≡ size) (e : freshOf f .answer ≡ Accepted) (range : SettingsInRange f) where
+    accepted : Settings f
+    accepted = fresh-laws .accepted-settings f range e
+
+    pages-reached : AllInRange (callsIn rs) → callPages rows (freshPage rows page f) rs ≡ pageOf (recordAfter rows (recordOf (freshState f)) (callsIn rs))
+    unfolding recordAfter
+    pages-reached i =
+        let first : freshPage rows page f ≡ pageOf (recordOf (freshState f)) =
+        kept-written rows (freshOf f) page whole e (fresh-sound f range e) ∙ ap pageOf (fresh-laws .accepted-meter f e) in
+        ap (λ (page : List ℕ). callPages rows page rs) first ∙ pages-from f accepted rs [] i tt
+
+    account-page : AllInRange (callsIn rs) → callPages rows (freshPage rows page f) rs ≡ accountPage (account rows f (callsIn rs))
+    account-page i =
+        pages-reached i
+        ∙ ap pageOf (meter.laws .1 rows table .simulates f (callsIn rs) accepted i)
+        ∙ sym (list-written rows table f (callsIn rs) accepted i)
+
+    account-letter : (r : Command) (c : Call) → AllInRange (c ∷ callsIn rs) → callOf r ≡ Ok c
+        → callLetter rows (callPages rows (freshPage rows page f) rs) r ≡ letterByte (letter rows f (callsIn rs) c)
+    unfolding callLetter
+    account-letter r c i names =
+        rw (pages-reached (i .1), names, from-record f accepted (callsIn rs) (i .1) .reads)
+        (ap letterByte (meter.laws .1 rows table .letters f (callsIn rs) c accepted i))
 
 pub laws : Laws
 unfolding callsIn
@@ -276,5 +318,7 @@ laws rows table =
       call-page = λ page r bytes e i. page-on rows table (from-page rows table page bytes e) r i;
       fresh-refused = λ page f. kept-same rows (freshOf f) page;
       call-refused = call-same rows;
-      account-page = account-page rows table;
+      account-page = λ page f rs whole e range. account-page rows table page f rs whole e range;
+      refused-letter = refused-letter rows table;
+      account-letter = λ page f rs r c whole e range. account-letter rows table page f rs whole e range r c;
     }

@@ -1,15 +1,18 @@
--- The C interface: for each function its answer, 'refusal or 0', and the bytes that it leaves in the page. Those of a whole list are `replay`'s,
--- with a number for each answer. The definitions take the event table.
+-- The C interface: for each function its answer, 'refusal or 0', and the bytes that it leaves in the page. Those of a whole list are `replay`'s, with a
+-- number for each answer. A call also stores the letter of its move. The definitions take the event table.
+use mathlib.Core.Path.{_≡_}
 use mathlib.Core.List.{List}
 use Prim.Native.Nat.{ℕ}
 use Rattle.events.specs.Table.{EventRow}
 use Rattle.calls.specs.declared.Call.{Call}
 use Rattle.calls.specs.declared.Answer.{Answer}
 use Rattle.calls.specs.declared.Answer.the-variants as answer
+use Rattle.calls.specs.declared.Letter.{Letter}
+use Rattle.calls.specs.declared.Letter.the-variants.{None}
 use Rattle.calls.specs.declared.Command.{Command}
 use Rattle.calls.specs.declared.Parsed.{Parsed}
 use Rattle.calls.specs.declared.Parsed.the-variants.{Ok, NoKind}
-use Rattle.calls.specs.Calls.{answerNumber, callOf}
+use Rattle.calls.specs.Calls.{answerNumber, letterByte, callOf}
 use Rattle.history.specs.OnePhase.{Fresh}
 use Rattle.meter.specs.declared.Outcome.{Outcome}
 use Rattle.meter.specs.Machine.{applied}
@@ -58,6 +61,16 @@ abbrev pub performedPage : List EventRow → List ℕ → Parsed → List ℕ
 performedPage rows page (Ok c) = bytesOr (readOf rows page .answer) (keptPage rows (outcomeOn rows page c) page) page
 performedPage rows page NoKind = page
 
+-- document 02, A2: the letter of the move that the call made; '.. none, and so does a call that is refused ..', by the reader too
+abbrev pub letterOr : Answer → Letter → Letter
+letterOr answer.Accepted x = x
+letterOr (answer.Refused r) x = None
+
+-- of a call on the record of a page
+abbrev pub performedLetter : List EventRow → List ℕ → Parsed → Letter
+performedLetter rows page (Ok c) = letterOr (readOf rows page .answer) (outcomeOn rows page c .letter)
+performedLetter rows page NoKind = None
+
 -- a command on the record of a page
 unfoldable pub callNumber : List EventRow → List ℕ → Command → ℕ
 callNumber rows page r = performedNumber rows page (callOf r)
@@ -65,6 +78,16 @@ callNumber rows page r = performedNumber rows page (callOf r)
 -- the page that it leaves
 unfoldable pub callPage : List EventRow → List ℕ → Command → List ℕ
 callPage rows page r = performedPage rows page (callOf r)
+
+-- the letter's byte
+unfoldable pub callLetter : List EventRow → List ℕ → Command → ℕ
+callLetter rows page r = letterByte (performedLetter rows page (callOf r))
+
+-- what a call answers and leaves in the page and in the byte for the letter
+pub record Called (rows : List EventRow) (page : List ℕ) (r : Command) (number : ℕ) (after : List ℕ) (letter : ℕ) : Type 0 where
+  pub answers : number ≡ callNumber rows page r
+  pub leaves : after ≡ callPage rows page r
+  pub stores : letter ≡ callLetter rows page r
 
 -- what became of a list as a number: 0 where its page is written; 'Empty input', `bad` and `short` above every refusal
 abbrev pub replayNumber : Replayed → ℕ

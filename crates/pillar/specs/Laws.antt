@@ -9,15 +9,17 @@ use Rattle.base.specs.Tests.{every, within}
 use Rattle.codec.specs.Lawful.{Bytes}
 use Rattle.events.specs.Table.{EventRow, lawful}
 use Rattle.calls.specs.declared.Answer.the-variants.{Accepted, Refused}
+use Rattle.calls.specs.declared.Call.{Call}
 use Rattle.calls.specs.declared.Command.{Command}
-use Rattle.calls.specs.Calls.{answerNumber, AllInRange}
-use Rattle.history.specs.OnePhase.{Fresh, account}
+use Rattle.calls.specs.declared.Parsed.the-variants.{Ok}
+use Rattle.calls.specs.Calls.{answerNumber, letterByte, callOf, AllInRange}
+use Rattle.history.specs.OnePhase.{Fresh, account, letter}
 use Rattle.meter.specs.Settings.{SettingsInRange}
 use Rattle.meter.specs.Fresh.{freshOf}
 use Rattle.page.specs.Layout.{size, pageOf, readOf}
 use Rattle.page.specs.AccountPage.{accountPage}
 use Rattle.replay.specs.Replay.{callsIn, nextOf}
-use Rattle.pillar.specs.Interface.{numberOr, freshNumber, freshPage, callNumber, callPage}
+use Rattle.pillar.specs.Interface.{numberOr, freshNumber, freshPage, callNumber, callPage, callLetter}
 
 -- calls one after the other, each on the page that the one before left
 unfoldable pub callPages : List EventRow → List ℕ → List Command → List ℕ
@@ -43,9 +45,16 @@ pub record LawsOf (rows : List EventRow) : Type 0 where
   -- on any number but 0 every byte stays
   pub fresh-refused : (page : List ℕ) (f : Fresh) → (freshNumber rows page f ≡ 0 → ⊥) → freshPage rows page f ≡ page
   pub call-refused : (page : List ℕ) (r : Command) → (callNumber rows page r ≡ 0 → ⊥) → callPage rows page r ≡ page
+  -- document 02, A2: and there is no letter, whether kind, page or call is refused
+  pub refused-letter : (page : List ℕ) (r : Command) → Bytes page → AllInRange (callsIn (r ∷ [])) → (callNumber rows page r ≡ 0 → ⊥)
+      → callLetter rows page r ≡ 0
   -- calls from an accepted fresh, refused ones among them, leave the page of their history's account
   pub account-page : (page : List ℕ) (f : Fresh) (rs : List Command) → length page ≡ size → freshOf f .answer ≡ Accepted → SettingsInRange f
       → AllInRange (callsIn rs) → callPages rows (freshPage rows page f) rs ≡ accountPage (account rows f (callsIn rs))
+  -- document 02, A2: behind them, one more call leaves the letter that the account gives, by its switch before and after the call, and the call itself
+  pub account-letter : (page : List ℕ) (f : Fresh) (rs : List Command) (r : Command) (c : Call) → length page ≡ size → freshOf f .answer ≡ Accepted
+      → SettingsInRange f → AllInRange (c ∷ callsIn rs) → callOf r ≡ Ok c
+      → callLetter rows (callPages rows (freshPage rows page f) rs) r ≡ letterByte (letter rows f (callsIn rs) c)
 
 -- of every event table whose rows are lawful
 abbrev pub Laws : Type 0

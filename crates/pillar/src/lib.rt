@@ -1,13 +1,12 @@
-// The C interface of the core, on numbers and byte slices only. A meter's state is its page, as a
-// device keeps it: nothing is kept between calls. No function asks anything of its arguments; each
-// answers 0 or the number of a refusal, and a refusal leaves every byte. `include/pillar.h` declares
-// them.
+// The C interface of the core, on numbers and bytes. A meter's state is its page, as a device keeps it:
+// nothing is kept between calls. No function asks anything of its arguments; each answers 0 or the number
+// of a refusal, and a refusal leaves every byte of the page. `include/pillar.h` declares them.
 ghost use mathlib.Core.Path.{_≡_};
 ghost use Rattle.events.specs.Table.{builtIn};
 ghost use Rattle.calls.specs.Calls.{commandOf};
 ghost use Rattle.meter.specs.Settings.{settingsOf};
 ghost use Rattle.replay.specs.Replay.{replayAnswer, replayed};
-ghost use Rattle.pillar.specs.Interface.{keptNumber, keptPage, freshNumber, freshPage, callNumber, callPage, replayNumber, checkNumber};
+ghost use Rattle.pillar.specs.Interface.{keptNumber, keptPage, freshNumber, freshPage, Called, replayNumber, checkNumber};
 ghost use Rattle.pillar.specs.Laws.{Laws};
 use calls::Answer;
 use calls::Command;
@@ -57,7 +56,8 @@ pub extern "C" fn pillar_fresh(
 }
 
 // One call on the meter of a page, which is then that of the meter after it: 13 for a kind other than
-// 1 to 15, whatever the page, then 9, 10 and 11 as `pillar_check`, then the call's own refusals.
+// 1 to 15, whatever the page, then 9, 10 and 11 as `pillar_check`, then the call's own refusals. The
+// letter of the move that it made goes into `letter`, 0 for none, also where it is refused.
 #[no_mangle]
 pub extern "C" fn pillar_call(
     page: &mut [u8],
@@ -67,10 +67,12 @@ pub extern "C" fn pillar_call(
     n3: u32,
     n4: u32,
     n5: u32,
+    letter: &mut u8,
 ) -> u32
-    ensures { λ r. ⌜ (r ≡ callNumber builtIn (now (page .entry)) (commandOf kind n1 n2 n3 n4 n5)) × (now (page .exit) ≡ callPage builtIn (now (page .entry)) (commandOf kind n1 n2 n3 n4 n5)) ⌝ }
+    ensures { λ r. ⌜ Called builtIn (now (page .entry)) (commandOf kind n1 n2 n3 n4 n5) r (now (page .exit)) (now (letter .exit)) ⌝ }
     ensures laws { λ _. ⌜ Laws ⌝ }
 {
+    *letter = 0;
     let command = Command {
         kind,
         n1,
@@ -96,6 +98,8 @@ pub extern "C" fn pillar_call(
     let mut clocks = meter.logs.clocks;
     let mut codes = meter.logs.codes;
     let called = meter::apply_sound(before, &mut counts, &mut clocks, &mut codes, call);
+    let made = called.letter;
+    *letter = made.byte();
     let refusal = called.answer;
     if let Answer::Refused(number) = refusal {
         return number as u32;

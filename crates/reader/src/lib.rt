@@ -8,6 +8,7 @@ ghost use Rattle.page.specs.NearMisses.{NearMisses};
 mod areas;
 
 use calls::Answer;
+use calls::Letter;
 use meter::Meter;
 use meter::Outcome;
 use page::FIRST_LOG;
@@ -42,5 +43,6 @@ pub fn read_page(bytes: &[u8]) -> Outcome
     Outcome {
         meter: Meter::of_parts(scalars, counts, clocks, codes),
         answer: Answer::Accepted,
+        letter: Letter::None,
     }
 }

@@ -20,12 +20,12 @@ use Rattle.status.specs.Laws.{NoLimiter, changeWith, resultWith, Laws}
 
 module _ (v : Values) (ls : List Limiter) where
   pub moving-left : (xs : List Line) (d : Decision) → moving (withLimiters v ls) xs d ≡ changeWith ls (moving v xs d)
-  moving-left xs (Move t c o) = refl
+  moving-left xs (Move t c o x) = refl
   moving-left xs Stay = refl
   moving-left xs NotListed = refl
 
   answering-left : (d : Decision) → answering (withLimiters v ls) d ≡ resultWith ls (answering v d)
-  answering-left (Move t c o) = refl
+  answering-left (Move t c o x) = refl
   answering-left Stay = refl
   answering-left NotListed = refl
 

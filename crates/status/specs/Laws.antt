@@ -22,7 +22,7 @@ NoLimiter (script n) = Unit
 
 -- a change, with these limiters in its values
 abbrev pub changeWith : List Limiter → Change → Change
-changeWith ls k = record { values = withLimiters (k .values) ls; cleared = k .cleared; log = k .log; lines = k .lines }
+changeWith ls k = record { values = withLimiters (k .values) ls; letter = k .letter; cleared = k .cleared; log = k .log; lines = k .lines }
 
 -- a result
 abbrev pub resultWith : List Limiter → Result → Result

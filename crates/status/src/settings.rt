@@ -6,6 +6,7 @@ ghost use Rattle.status.specs.Status.{statusValues};
 ghost use Rattle.status.specs.Step.{statusStepFor};
 use crate::Status;
 use crate::StatusStep;
+use calls::Letter;
 
 impl Status {
     // A line with the clock before and one with the clock after; a clock that is set is valid again,
@@ -16,7 +17,7 @@ impl Status {
         let before = self.clock;
         self.clock = clock;
         self.errors = self.errors.clear(1);
-        self.logged_two(1, before, 4, 5)
+        self.logged_two(1, before, 4, 5, Letter::None)
     }
 
     pub fn set_alarm_filter(mut self, filter: u32) -> StatusStep

@@ -34,7 +34,12 @@ impl Status {
         ensures { λ r. ⌜ r ≡ statusStepFor (moving (statusValues self) [] decision) ⌝ }
     {
         match decision {
-            Decision::Move { to, code, opens } => self.moved(to, opens).logged(3, code),
+            Decision::Move {
+                to,
+                code,
+                opens,
+                letter,
+            } => self.moved(to, opens).logged(3, code, letter),
             Decision::Stay => self.accepted(3),
             Decision::NotListed => self.accepted(3),
         }

@@ -1,10 +1,12 @@
--- What a call makes of the scalars, as the code has it: the next scalars, the answer, and what is done to the logs.
+-- What a call makes of the scalars, as the code has it: the next scalars, the answer, the letter of its move, and what is done to the
+-- logs.
 use mathlib.Core.List.{List, [], map}
 use lib.ListN.{length}
 use Rattle.events.specs.Table.{EventRow}
 use Rattle.logs.specs.Layout.{lineClock, lineCode}
 use Rattle.calls.specs.declared.Call.{Call}
 use Rattle.calls.specs.declared.Answer.the-variants.{Accepted, Refused}
+use Rattle.calls.specs.declared.Letter.the-variants.{None}
 use Rattle.history.specs.OnePhase.{asCall}
 use Rattle.machine.specs.Machine.{Change, Result, refusing, making, result}
 use Rattle.limiter.specs.declared.Limiter.{Limiter}
@@ -24,6 +26,7 @@ stepFor k =
     record {
       scalars = scalarsFrom (k .values);
       answer = Accepted;
+      letter = k .letter;
       cleared = k .cleared;
       log = k .log;
       count = length (k .lines);
@@ -33,7 +36,7 @@ stepFor k =
 
 -- a result: refused, the scalars are those that came in, and nothing is owed
 abbrev pub stepOf : Scalars → Result → Step
-stepOf s (refusing n) = record { scalars = s; answer = Refused n; cleared = 0; log = 0; count = 0; clocks = inPlaces []; codes = inPlaces [] }
+stepOf s (refusing n) = record { scalars = s; answer = Refused n; letter = None; cleared = 0; log = 0; count = 0; clocks = inPlaces []; codes = inPlaces [] }
 stepOf s (making k) = stepFor k
 
 -- a step of the status, with a limiter
@@ -42,6 +45,7 @@ stepWith l x =
     record {
       scalars = scalarsWith l (x .status);
       answer = x .answer;
+      letter = x .letter;
       cleared = x .cleared;
       log = x .log;
       count = x .count;

@@ -8,6 +8,7 @@ ghost use Rattle.steps.specs.Step.{stepFor, stepOf};
 use crate::Scalars;
 use crate::Step;
 use calls::Answer;
+use calls::Letter;
 use control::Decision;
 use control::Request;
 
@@ -34,7 +35,7 @@ impl Scalars {
             return self.with(self.status().refused(number));
         }
         self.limiter = self.limiter.set(threshold, over, under);
-        self.with(self.status().logged(3, 67))
+        self.with(self.status().logged(3, 67, Letter::None))
     }
 
     // The limiter's firing: its own line, then the request that it makes. A mode that is not listed
@@ -49,13 +50,14 @@ impl Scalars {
                 to,
                 code: next,
                 opens,
+                letter,
             } => self.with(
                 status
                     .moved(to, opens)
-                    .logged_two(3, self.clock, code, next),
+                    .logged_two(3, self.clock, code, next, letter),
             ),
-            Decision::Stay => self.with(status.logged(3, code)),
-            Decision::NotListed => self.with(status.logged(3, code)),
+            Decision::Stay => self.with(status.logged(3, code, Letter::None)),
+            Decision::NotListed => self.with(status.logged(3, code, Letter::None)),
         }
     }
 

@@ -35,8 +35,8 @@ fn main() {
     let answer = pillar::fresh(&mut page, settings);
     print(1, answer, &page);
     for (position, (kind, number)) in (2..).zip(CALLS) {
-        let answer = pillar::call(&mut page, kind, [number as u32, 0, 0, 0, 0]);
-        print(position, answer, &page);
+        let called = pillar::call(&mut page, kind, [number as u32, 0, 0, 0, 0]);
+        print(position, called.answer, &page);
     }
 }
 

@@ -2,9 +2,11 @@
 //!
 //! The state of a meter is its page of [`PAGE`] bytes; the core keeps nothing
 //! between calls. A refusal is the core's number, and the bytes lent stay as
-//! they were. Whatever is passed is safe: a slice goes over as its pointer and
-//! its length, and the core judges the length.
+//! they were; a call hands on the [`Letter`] of the move that it made. Whatever
+//! is passed is safe: a slice goes over as its pointer and its length, and the
+//! core judges the length.
 
+mod letter;
 #[cfg(not(feature = "stand-in"))]
 mod linked;
 #[cfg(feature = "stand-in")]
@@ -15,6 +17,8 @@ use linked as core;
 #[cfg(feature = "stand-in")]
 use stand_in as core;
 
+pub use letter::Letter;
+
 /// The page's length, `PILLAR_PAGE_SIZE`.
 pub const PAGE: usize = 558;
 
@@ -23,6 +27,14 @@ pub const STAND_IN: bool = cfg!(feature = "stand-in");
 
 /// `Ok(())`, or the number of the refusal, which `include/pillar.h` names.
 pub type Answer = Result<(), u32>;
+
+/// What a call answers, and the letter of the move that it made: none if it is
+/// refused, moves nothing or sets mode 0.
+#[derive(Clone, Copy, Debug, PartialEq, Eq)]
+pub struct Called {
+    pub answer: Answer,
+    pub letter: Option<Letter>,
+}
 
 /// The numbers of a fresh meter.
 #[derive(Clone, Copy, Debug, PartialEq, Eq)]
@@ -42,8 +54,17 @@ pub fn fresh(page: &mut [u8], settings: Settings) -> Answer {
 /// Runs one call on the meter whose page is lent; the kinds and their numbers
 /// are those of `enum pillar_kind`. 13 by the kind, then 9, 10 or 11 from the
 /// reader, then the call's own refusal.
-pub fn call(page: &mut [u8], kind: u32, numbers: [u32; 5]) -> Answer {
-    answer(core::call(page, kind, numbers))
+///
+/// # Panics
+///
+/// If the archive leaves a byte for the letter that is none. The proved core
+/// never does.
+pub fn call(page: &mut [u8], kind: u32, numbers: [u32; 5]) -> Called {
+    let (number, letter) = core::call(page, kind, numbers);
+    Called {
+        answer: answer(number),
+        letter: Letter::of_byte(letter),
+    }
 }
 
 /// Runs a list of 21-byte records and writes the last meter's page: 100 (no

@@ -23,6 +23,7 @@ mod c {
             n3: u32,
             n4: u32,
             n5: u32,
+            letter: *mut u8,
         ) -> u32;
 
         pub fn pillar_replay(
@@ -59,11 +60,28 @@ pub fn fresh(page: &mut [u8], settings: Settings) -> u32 {
     }
 }
 
-pub fn call(page: &mut [u8], kind: u32, numbers: [u32; 5]) -> u32 {
+/// The number, and the byte that stands for the letter.
+pub fn call(page: &mut [u8], kind: u32, numbers: [u32; 5]) -> (u32, u8) {
     let [n1, n2, n3, n4, n5] = numbers;
     let length = page.len();
-    // SAFETY: pointer and length are those of one live, exclusive slice.
-    unsafe { c::pillar_call(page.as_mut_ptr(), length, kind, n1, n2, n3, n4, n5) }
+    // Stands for no letter and not for none, so that a call that stores nothing is noticed.
+    let mut letter = u8::MAX;
+    // SAFETY: pointer and length are those of one live, exclusive slice; the letter is a live,
+    // exclusive byte of its own.
+    let number = unsafe {
+        c::pillar_call(
+            page.as_mut_ptr(),
+            length,
+            kind,
+            n1,
+            n2,
+            n3,
+            n4,
+            n5,
+            &mut letter,
+        )
+    };
+    (number, letter)
 }
 
 pub fn replay(records: &[u8], page: &mut [u8]) -> u32 {

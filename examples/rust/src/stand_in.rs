@@ -16,8 +16,12 @@ pub fn fresh(page: &mut [u8], settings: Settings) -> u32 {
     number(meter.and_then(|meter| meter.write_page(page)))
 }
 
-pub fn call(page: &mut [u8], kind: u32, numbers: [u32; 5]) -> u32 {
-    number(Meter::call_on_page(page, kind, numbers))
+/// The number, and the byte that stands for the letter.
+pub fn call(page: &mut [u8], kind: u32, numbers: [u32; 5]) -> (u32, u8) {
+    let answer = Meter::call_on_page(page, kind, numbers);
+    let letter = answer.ok().flatten();
+    let byte = letter.map_or(0, |letter| letter.as_char() as u8);
+    (number(answer), byte)
 }
 
 pub fn replay(records: &[u8], page: &mut [u8]) -> u32 {
@@ -28,6 +32,6 @@ pub fn check(page: &[u8]) -> u32 {
     number(Meter::read_page(page).map(|_| ()))
 }
 
-fn number(answer: Result<(), u8>) -> u32 {
+fn number<T>(answer: Result<T, u8>) -> u32 {
     answer.err().unwrap_or(0).into()
 }

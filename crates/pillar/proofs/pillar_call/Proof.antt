@@ -1,6 +1,6 @@
 -- `pillar_call` meets its contract: a kind that names no call returns at once, then a page that the reader refuses, and a call that is refused; the
 -- record that the call leaves is sound, as the one that was read is, and goes to the writer.
-use mathlib.Core.Path.{_≡_, ap, _∙_}
+use mathlib.Core.Path.{_≡_, refl, ap, _∙_}
 use mathlib.Core.Bool.{true}
 use native.Mathlib.Omega.{arith}
 use borrow.Author.Needs.{needs}
@@ -15,7 +15,6 @@ use Rattle.meter.specs.Sound.{soundMeter}
 use Rattle.meter.specs.Machine.{applied}
 use Rattle.meter.specs.Parts.{outcomeOf}
 use Rattle.meter.proofs.Laws.{built-in}
-use Rattle.pillar.specs.Interface.{callNumber, callPage}
 use Rattle.pillar.proofs.Kept.{kept-refused, kept-written, call-no-kind, call-refused, call-kept, named-range}
 use Rattle.pillar.proofs.Laws.{read-record, laws}
 use Rattle.pillar.proofs.pillar_call.Statement.{statement}
@@ -67,47 +66,44 @@ left-sound c =
     ap (λ (o : Outcome). soundMeter builtIn (o .meter)) (applies c) ∙ built-in .kept-sound (given c) (call c) sized (in-range c) sound
 
 returns : tie.Need-returns
-unfolding callNumber callPage
-returns c = (rw (← c .before .before .read-kind .ensures .0) (call-no-kind builtIn _ _ (c .enum-told .given .1)), laws)
+returns c = (call-no-kind builtIn _ _ _ (c .before .before .read-kind .ensures .0) _ (c .enum-told .given .1) refl, laws)
 
 returns-2 : tie.Need-returns-2
-unfolding callNumber callPage
 returns-2 c =
     let read = c .before .before .before in
     let parsed = reading read in (
-      rw (← parsed .before .before .read-kind .ensures .0)
-          (call-refused builtIn _ _ _ (parsed .parsed .given .1) _ (read .read-page .ensures .0) _ (c .before .answer .given .1)),
+      call-refused builtIn _ _ _ (parsed .before .before .read-kind .ensures .0) _ (parsed .parsed .given .1) _ (read .read-page .ensures .0) _ _
+          (c .before .answer .given .1) (λ x. refl),
       laws,
     )
 
 returns-3 : tie.Need-returns-3
-unfolding callNumber callPage
 returns-3 c =
-    let a = c .before .before .before in
+    let byte = c .before .before .before in
+    let a = byte .before in
     let parsed = reading (read a) in (
-      rw (← parsed .before .before .read-kind .ensures .0)
-          (call-kept builtIn _ _ _ (parsed .parsed .given .1) _ (read a .read-page .ensures .0) _ _ _
-          (taken a .enum-told2 .given .1) (applies a) (kept-refused builtIn (left a) _ _ (c .before .refusal .given .1))),
+      call-kept builtIn _ _ _ (parsed .before .before .read-kind .ensures .0) _ (parsed .parsed .given .1) _ (read a .read-page .ensures .0) _ _ _ _
+          (taken a .enum-told2 .given .1) (applies a) (kept-refused builtIn (left a) _ _ (c .before .refusal .given .1)) (byte .byte .ensures),
       laws,
     )
 
 returns-4 : tie.Need-returns-4
-unfolding callNumber callPage
 returns-4 c =
     let wrote = c .before .before .before in
     let told = wrote .before .before .before .before .before .before in
-    let a = told .before .before in
+    let byte = told .before .before in
+    let a = byte .before in
     let parsed = reading (read a) in (
-      rw (← parsed .before .before .read-kind .ensures .0)
-          (call-kept builtIn _ _ _ (parsed .parsed .given .1) _ (read a .read-page .ensures .0) _ _ _
+      call-kept builtIn _ _ _ (parsed .before .before .read-kind .ensures .0) _ (parsed .parsed .given .1) _ (read a .read-page .ensures .0) _ _ _ _
           (taken a .enum-told2 .given .1) (applies a)
-          (kept-written builtIn (left a) _ _ _ _ (told .enum-told3 .given .1) (c .number .ensures) (wrote .write-sound .ensures (left-sound a)))),
+          (kept-written builtIn (left a) _ _ _ _ (told .enum-told3 .given .1) (c .number .ensures) (wrote .write-sound .ensures (left-sound a)))
+          (byte .byte .ensures),
       laws,
     )
 
 pub pillar-call-spec : {M : Type 1} → statement M
 pillar-call-spec =
     tie.close (tie.spec (λ c κs. search needs) (λ c. search needs) (λ c. search needs) returns (λ c κs. search needs) (λ c. search needs)
-    (λ c. search needs) (λ c. search needs) returns-2 (λ c. search needs) (λ c κs. search needs) (λ c κs. search needs) (λ c. search needs)
-    (λ c. search needs) (λ c. search needs) returns-3 (λ c. search needs) (λ c κs. search needs) (λ c κs. search needs) (λ c. search needs)
+    (λ c. search needs) (λ c. search needs) returns-2 (λ c. search needs) (λ c κs. search needs) (λ c κs. search needs) (λ c κs. search needs)
+    (λ c. search needs) (λ c. search needs) (λ c. search needs) returns-3 (λ c. search needs) (λ c κs. search needs) (λ c κs. search needs) (λ c. search needs)
     (λ c. search needs) returns-4)

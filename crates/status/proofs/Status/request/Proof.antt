@@ -19,7 +19,7 @@ use Rattle.status.proofs.Status.request.Tie as tie
 -- what is listed is carried out
 listed : (s : Status) (d : Decision) → OneOf (0 ∷ 1 ∷ []) (tagOf decisions.the-type d)
     → statusStepFor (moving (statusValues s) [] d) ≡ statusStepOf s (answering (statusValues s) d)
-listed s (Move t c o) h = refl
+listed s (Move t c o x) h = refl
 listed s Stay h = refl
 listed s NotListed (inl e) = absurd (omega arith)
 listed s NotListed (inr e) = absurd (omega arith)
