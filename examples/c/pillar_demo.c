@@ -20,7 +20,7 @@ struct call {
 /*
  * Each with the letter that documents 01 and 02 give it. A negative power passes
  * as two's complement. The third sample is the second over 3000, and opens. The
- * samples not over end Exceeded where the switch is connected already. Script 3
+ * manual reconnect ends Exceeded, so the samples not over end nothing. Script 3
  * and control mode 7 are refused, and in control mode 0 every request is; mode 0
  * itself connects without a letter.
  */
@@ -43,12 +43,11 @@ static const struct call calls[] = {
 
 enum { CALLS = sizeof calls / sizeof calls[0] };
 
-/* Document 01: 'Log 3 then: 65, 64, 61 at 1003; 66, 62, 59, 63 at 1006'. */
+/* Document 01: 'Log 3 then: 65, 64, 61 at 1003; 66, 62, 59, 63 at 1006'; 02, A5: 'The 66 drops out'. */
 static const struct pillar_line lines[] = {
     {1003, PILLAR_LOGGED_LIMITER_THRESHOLD_EXCEEDED},
     {1003, PILLAR_LOGGED_LOCAL_DISCONNECTION},
     {1003, PILLAR_LOGGED_MANUAL_CONNECTION},
-    {1006, PILLAR_LOGGED_LIMITER_THRESHOLD_OK},
     {1006, PILLAR_LOGGED_REMOTE_DISCONNECTION},
     {1006, PILLAR_LOGGED_DISCONNECTER_READY_FOR_MANUAL_RECONNECTION},
     {1006, PILLAR_LOGGED_REMOTE_CONNECTION},

@@ -14,7 +14,8 @@ pub const ERRORS: usize = 67;
 pub const LOGS: [usize; 3] = [75, 236, 397];
 pub const LINES: usize = 32;
 
-/// The switch at Ready for reconnection.
+/// The switch at Connected and at Ready for reconnection.
+pub const CONNECTED: u8 = 1;
 pub const READY: u8 = 2;
 
 const FIELDS: [(usize, &str); 14] = [
@@ -37,6 +38,13 @@ const FIELDS: [(usize, &str); 14] = [
 /// The clock of a line, its code four bytes on.
 pub fn line(log: usize, place: usize) -> usize {
     LOGS[log] + 1 + 5 * place
+}
+
+/// The codes of a log, the newest first.
+pub fn newest_codes(page: &[u8], log: usize) -> impl Iterator<Item = u8> {
+    let count = usize::from(page[LOGS[log]]).min(LINES);
+    let places = (0..count).rev();
+    places.map(move |place| page[line(log, place) + 4])
 }
 
 /// The field that a byte of the page belongs to.

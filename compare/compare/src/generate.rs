@@ -1,7 +1,8 @@
 //! Calls and settings, aimed at the places where cores go wrong.
 
 use crate::call::Call;
-use crate::field::{self, READY};
+use crate::case::Case;
+use crate::field;
 use crate::random::Random;
 use pillar::{PAGE, Settings};
 
@@ -18,10 +19,12 @@ pub enum Profile {
     Registers,
     LateClock,
     LateOpenings,
+    /// The holder's key while the load stays on.
+    Key,
 }
 
 impl Profile {
-    pub const ALL: [Profile; 10] = [
+    pub const ALL: [Profile; 11] = [
         Profile::Mixed,
         Profile::Edges,
         Profile::WideNumbers,
@@ -32,6 +35,7 @@ impl Profile {
         Profile::Registers,
         Profile::LateClock,
         Profile::LateOpenings,
+        Profile::Key,
     ];
 
     /// The kinds to choose from, the frequent ones more than once.
@@ -43,6 +47,7 @@ impl Profile {
             Profile::Registers => &[9, 9, 9, 9, 9, 10, 11, 12, 13, 8, 1],
             Profile::LateClock => &[1, 1, 1, 1, 8, 9, 7, 14],
             Profile::LateOpenings => &[2, 3, 4, 5, 5, 6, 1, 1, 15],
+            Profile::Key => &[1, 1, 1, 1, 1, 1, 1, 1, 5, 5, 5, 4, 3, 2, 6, 7],
             _ => &[1, 1, 2, 3, 4, 5, 6, 7, 8, 9, 10, 11, 12, 13, 14, 15],
         }
     }
@@ -174,7 +179,9 @@ impl Generator {
     /// At the threshold or one above it, in rows; now and then anything.
     fn power(&mut self, random: &mut Random, reach: Reach, page: &[u8; PAGE]) -> u32 {
         let threshold = field::get(page, field::THRESHOLD) as i32;
-        if random.one_in(5) {
+        if self.profile == Profile::Key {
+            self.over = !random.one_in(6);
+        } else if random.one_in(5) {
             self.over = !self.over;
         }
         let power = match reach {
@@ -193,6 +200,10 @@ impl Generator {
         match self.profile {
             Profile::Runs => patch_run(random, &mut page),
             Profile::Requests => patch_switch(random, &mut page),
+            Profile::Key => {
+                patch_run(random, &mut page);
+                patch_switch(random, &mut page);
+            }
             Profile::LateClock => {
                 let left = random.below(3) as u32;
                 field::put(&mut page, field::CLOCK, LAST - left);
@@ -213,7 +224,7 @@ impl Generator {
     /// How often a history is patched: once in so many calls.
     pub fn patches(&self) -> usize {
         match self.profile {
-            Profile::Runs | Profile::Requests => 20,
+            Profile::Runs | Profile::Requests | Profile::Key => 20,
             Profile::LateClock | Profile::LateOpenings => 12,
             _ => 400,
         }
@@ -241,15 +252,15 @@ fn unknown_kind(random: &mut Random) -> Call {
     }
 }
 
-/// A call of [`Case`](crate::case::Case), if the meter of this page is met by one.
+/// A call that may be a [`Case`], if it is one on the meter of this page.
 fn aimed(random: &mut Random, page: &[u8; PAGE]) -> Option<Call> {
-    let (kind, number) = match (page[field::MODE], page[field::SWITCH]) {
-        (2 | 4, READY) => random.pick(&[(3, 0), (15, 2)]),
-        _ => return None,
-    };
+    let threshold = field::get(page, field::THRESHOLD) as i32;
+    let over = threshold.saturating_add(1) as u32;
+    let (kind, number) = random.pick(&[(1, over), (3, 0), (5, 0), (15, 2)]);
     let mut numbers = [0; 5].map(|_| random.number());
     numbers[0] = number;
-    Some(Call { kind, numbers })
+    let call = Call { kind, numbers };
+    Case::of(call, page).map(|_| call)
 }
 
 /// Run one or two samples before its end, also for the longest durations.
@@ -319,20 +330,23 @@ fn draw(random: &mut Random, reach: Reach, usual: &[u32], edge: &[u32]) -> u32 {
 #[cfg(test)]
 mod tests {
     use super::*;
-    use crate::case::Case;
+    use std::collections::BTreeSet;
 
     #[test]
-    fn an_aimed_call_meets_a_case() {
+    fn aimed_calls_meet_every_case() {
         let mut random = Random::new(1);
         let mut page = [0; PAGE];
-        let mut aims = 0;
-        for _ in 0..1000 {
+        page[field::LOGS[2]] = 2;
+        page[field::line(2, 0) + 4] = 65;
+        page[field::line(2, 1) + 4] = 61;
+        let mut met = BTreeSet::new();
+        for _ in 0..10_000 {
             patch_switch(&mut random, &mut page);
+            patch_run(&mut random, &mut page);
             if let Some(call) = aimed(&mut random, &page) {
-                assert!(Case::of(call, &page).is_some(), "{call}");
-                aims += 1;
+                met.extend(Case::of(call, &page));
             }
         }
-        assert!(aims > 0);
+        assert_eq!(met, BTreeSet::from(Case::ALL));
     }
 }

@@ -6,7 +6,7 @@ use plain::fault;
 
 type Run = fn(&Plan) -> Result<Counts, Box<Found>>;
 
-pub const PLANTED: [(&str, Run); 25] = [
+pub const PLANTED: [(&str, Run); 36] = [
     (
         "trips at power equal to threshold",
         run::<{ fault::TRIPS_AT_THRESHOLD }>,
@@ -100,5 +100,49 @@ pub const PLANTED: [(&str, Run); 25] = [
     (
         "answers e where a remote reconnect closes from Ready",
         run::<{ fault::CLOSES_AS_E }>,
+    ),
+    (
+        "leaves the limiter at a manual reconnect",
+        run::<{ fault::NEVER_ARMS }>,
+    ),
+    (
+        "arms the limiter at a manual reconnect that moves nothing",
+        run::<{ fault::ARMS_WITHOUT_MOVE }>,
+    ),
+    (
+        "ends Exceeded at a manual reconnect and leaves Run",
+        run::<{ fault::ARMS_KEEPING_RUN }>,
+    ),
+    (
+        "sets Run 0 at a manual reconnect and leaves Exceeded",
+        run::<{ fault::ARMS_KEEPING_EXCEEDED }>,
+    ),
+    (
+        "leaves Run at a manual reconnect where not Exceeded",
+        run::<{ fault::ARMS_WHILE_EXCEEDED }>,
+    ),
+    (
+        "arms the limiter at a remote reconnect from Ready",
+        run::<{ fault::REMOTE_RECONNECT_ARMS }>,
+    ),
+    (
+        "arms the limiter where mode 0 closes",
+        run::<{ fault::MODE_0_ARMS }>,
+    ),
+    (
+        "logs 66 where a manual reconnect ends Exceeded",
+        run::<{ fault::LOGS_66_WHEN_ARMED }>,
+    ),
+    (
+        "logs 67 where a manual reconnect arms the limiter",
+        run::<{ fault::LOGS_67_WHEN_ARMED }>,
+    ),
+    (
+        "loses Over and Under where a manual reconnect arms the limiter",
+        run::<{ fault::ARMING_LOSES_DURATIONS }>,
+    ),
+    (
+        "loses the threshold where a manual reconnect arms the limiter",
+        run::<{ fault::ARMING_LOSES_THRESHOLD }>,
     ),
 ];

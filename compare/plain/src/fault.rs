@@ -55,3 +55,25 @@ pub const SCRIPTS_WITHOUT_LETTER: u8 = 23;
 pub const SAMPLES_WITHOUT_LETTER: u8 = 24;
 /// A remote reconnect that closes from Ready answers e, as the key does.
 pub const CLOSES_AS_E: u8 = 25;
+/// A manual reconnect leaves the limiter as it is, as before A5.
+pub const NEVER_ARMS: u8 = 26;
+/// Every accepted manual reconnect arms the limiter, moving or not.
+pub const ARMS_WITHOUT_MOVE: u8 = 27;
+/// A manual reconnect ends Exceeded and leaves Run.
+pub const ARMS_KEEPING_RUN: u8 = 28;
+/// A manual reconnect sets Run 0 and leaves Exceeded.
+pub const ARMS_KEEPING_EXCEEDED: u8 = 29;
+/// A manual reconnect arms the limiter only while Exceeded.
+pub const ARMS_WHILE_EXCEEDED: u8 = 30;
+/// A remote reconnect that closes from Ready arms the limiter too.
+pub const REMOTE_RECONNECT_ARMS: u8 = 31;
+/// Accepting mode 0 arms the limiter where it moves the switch.
+pub const MODE_0_ARMS: u8 = 32;
+/// Line 66 for an Exceeded that a manual reconnect ends.
+pub const LOGS_66_WHEN_ARMED: u8 = 33;
+/// Line 67, as of a limiter setting, for a manual reconnect that arms.
+pub const LOGS_67_WHEN_ARMED: u8 = 34;
+/// A manual reconnect that arms sets both durations to 1.
+pub const ARMING_LOSES_DURATIONS: u8 = 35;
+/// A manual reconnect that arms sets the threshold to 0.
+pub const ARMING_LOSES_THRESHOLD: u8 = 36;

@@ -92,12 +92,13 @@ fn worked_example_gives_the_listing() {
     assert_eq!(worked().1, LISTING);
 }
 
-/// "Log 3 then: 65, 64, 61 at 1003; 66, 62, 59, 63 at 1006."
+/// "Log 3 then: 65, 64, 61 at 1003; 66, 62, 59, 63 at 1006."; "The 66 drops out
+/// of 01's example log" (02, A5)
 #[test]
 fn worked_example_gives_log_3() {
     let lines: Vec<_> = worked().0.logs[DISCONNECT].lines().collect();
     let early = [65, 64, 61].map(|code| (1003, code));
-    let late = [66, 62, 59, 63].map(|code| (1006, code));
+    let late = [62, 59, 63].map(|code| (1006, code));
     assert_eq!(lines, [&early[..], &late[..]].concat());
 }
 
@@ -167,11 +168,11 @@ fn page_has_the_stated_layout() {
     assert_eq!(page[67..75], errors);
     assert_eq!(page[75..397], [0; 322]);
     let lines = [
-        7, 0, 0, 3, 235, 65, 0, 0, 3, 235, 64, 0, 0, 3, 235, 61, 0, 0, 3, 238, 66, 0, 0, 3, 238,
-        62, 0, 0, 3, 238, 59, 0, 0, 3, 238, 63,
+        6, 0, 0, 3, 235, 65, 0, 0, 3, 235, 64, 0, 0, 3, 235, 61, 0, 0, 3, 238, 62, 0, 0, 3, 238,
+        59, 0, 0, 3, 238, 63,
     ];
-    assert_eq!(page[397..433], lines);
-    assert_eq!(page[433..], [0; 125]);
+    assert_eq!(page[397..428], lines);
+    assert_eq!(page[428..], [0; 130]);
     assert_eq!(Meter::read_page(&page), Ok(meter));
 }
 
@@ -240,7 +241,7 @@ fn the_reader_refuses_in_order() {
 fn the_reader_refuses_any_byte_past_the_lines() {
     let (meter, _) = worked();
     let good = page_of(&meter);
-    let past = (76..236).chain(237..397).chain(433..PAGE);
+    let past = (76..236).chain(237..397).chain(428..PAGE);
     for place in past {
         let mut page = good;
         page[place] = 64;
@@ -501,4 +502,82 @@ fn a_limiter_setting_keeps_exceeded() {
     assert_eq!((meter.exceeded, meter.run), (true, 0));
     let codes: Vec<_> = meter.logs[DISCONNECT].lines().map(|line| line.1).collect();
     assert_eq!(codes, [65, 67]);
+}
+
+/// Exceeded, and Run one before its end.
+fn nearly_under(mode: u32) -> Meter {
+    let mut meter = Meter::fresh(mode, 10, 2, 3, 0).unwrap();
+    for power in [11, 11, 10, 10] {
+        meter.sample(power).unwrap();
+    }
+    assert_eq!((meter.exceeded, meter.run), (true, 2));
+    meter
+}
+
+fn codes(meter: &Meter) -> Vec<u8> {
+    let lines = meter.logs[DISCONNECT].lines();
+    lines.map(|line| line.1).collect()
+}
+
+/// "a manual reconnect that moves the switch also ends Exceeded and sets Run 0,
+/// without a line" (02, A5)
+#[test]
+fn the_key_arms_the_limiter() {
+    for mode in 1..=6 {
+        let mut meter = nearly_under(mode);
+        let before = meter;
+        assert_eq!(meter.manual_reconnect(), Ok(Some(Letter::E)));
+        assert_eq!(codes(&meter), [65, 64, 61]);
+        let expected = Meter {
+            switch: CONNECTED,
+            exceeded: false,
+            run: 0,
+            logs: meter.logs,
+            ..before
+        };
+        assert_eq!(meter, expected);
+        // The kettle is still on: cut again, after Over samples.
+        assert_eq!(meter.sample(11), Ok(None));
+        assert_eq!(meter.sample(11), Ok(Some(Letter::G)));
+        assert_eq!(codes(&meter), [65, 64, 61, 65, 64]);
+        assert_eq!((meter.switch, meter.openings), (READY, 2));
+    }
+}
+
+#[test]
+fn the_key_sets_run_0_where_not_exceeded() {
+    let mut meter = Meter::fresh(1, 10, 2, 3, 0).unwrap();
+    meter.sample(11).unwrap();
+    meter.manual_disconnect().unwrap();
+    assert_eq!(meter.run, 1);
+    meter.manual_reconnect().unwrap();
+    assert_eq!((meter.exceeded, meter.run), (false, 0));
+    assert_eq!(meter.sample(11), Ok(None));
+    assert_eq!(codes(&meter), [60, 61]);
+}
+
+/// A manual reconnect that moves nothing, a remote reconnect, mode 0, and the
+/// key that opens.
+#[test]
+fn nothing_else_arms_the_limiter() {
+    let armed = |mode, switch, calls: &[(u32, u32)]| {
+        let mut meter = nearly_under(mode);
+        meter.switch = switch;
+        for &(kind, number) in calls {
+            meter.command(kind, [number, 0, 0, 0, 0]).unwrap();
+        }
+        (meter.exceeded, meter.run) != (true, 2)
+    };
+    for mode in 1..=6 {
+        assert!(armed(mode, READY, &[(5, 0)]));
+        assert!(!armed(mode, CONNECTED, &[(5, 0)]));
+        assert!(!armed(mode, DISCONNECTED, &[(5, 0)]));
+        for switch in [DISCONNECTED, CONNECTED, READY] {
+            assert!(!armed(mode, switch, &[(2, 0)]));
+            assert!(!armed(mode, switch, &[(3, 0)]));
+            assert!(!armed(mode, switch, &[(15, 2)]));
+            assert!(!armed(mode, switch, &[(6, 0)]));
+        }
+    }
+    assert!(!armed(5, CONNECTED, &[(4, 0)]));
 }

@@ -1,15 +1,16 @@
 -- What holds of the account of every fresh meter, and of one with one monitored value.
 use Rattle.history.specs.Effects.{AnyFresh}
-use Rattle.history.specs.Limiter.{observations}
+use Rattle.history.specs.Switch.{observations}
 use Rattle.history.specs.Laws.{LawsOf, Laws}
 use Rattle.history.proofs.Splits.{mode-split, limits-split, filter-split, clock-split, spell-split, switch-inside, switch-outside}
 use Rattle.history.proofs.Splits.{mode-zero-decides, reconnect-decides, reconnect-outside-decides, manual-decides}
 use Rattle.history.proofs.Splits.{other-modes-decide-nothing, others-decide-nothing, inside-decides-nothing, stands-split, register-bits}
 use Rattle.history.proofs.Splits.{owed-split}
-use Rattle.history.proofs.Stretches.{others-unseen, in-force, in-force-limits, stretch-split, exceeded-split, run-split}
+use Rattle.history.proofs.Stretches.{sample-seen, setting-seen, others-unseen, in-force, in-force-limits, stretch-split, exceeded-split, run-split}
 use Rattle.history.proofs.Openings.{openings-count-prefixes, openings-accepted, account-accepted, refused-account}
 use Rattle.history.proofs.OneMonitored.{one-monitored-value}
 use Rattle.history.proofs.Letters.{letter-row, letter-refused}
+use Rattle.history.proofs.Armed.{armed-owes, moved-arms, moved-ends, unmoved-unseen, seen-split}
 
 laws-of : (f : AnyFresh) → LawsOf f
 laws-of f =
@@ -32,6 +33,13 @@ laws-of f =
       registerBits = register-bits;
       settingInForce = in-force f;
       limitsInForce = in-force-limits f;
+      sampleSeen = sample-seen f;
+      settingSeen = setting-seen f;
+      movedArms = moved-arms f;
+      movedEnds = moved-ends f;
+      unmovedUnseen = unmoved-unseen f;
+      armedSince = seen-split f;
+      armedOwes = armed-owes f;
       othersUnseen = others-unseen f;
       fullStretch = stretch-split;
       exceededLatest = λ k h. exceeded-split (observations f k h);

@@ -15,8 +15,7 @@ use Rattle.calls.specs.declared.Letter.the-variants.{None}
 use Rattle.history.specs.Effects.{AnyFresh, remoteDisconnect, remoteReconnect, manualDisconnect, manualReconnect, AnyCall, Effect, sampled, requested}
 use Rattle.history.specs.Effects.{modeSet, limitsSet, clockSet, occurred, filterSet, bitsCleared, logCleared, refused, reading}
 use Rattle.history.specs.Last.{History, otherwise, given, last, modeOf}
-use Rattle.history.specs.Limiter.{observations}
-use Rattle.history.specs.Switch.{spell, triesDisconnect, triesReconnect, decides, switchOf}
+use Rattle.history.specs.Switch.{spell, triesDisconnect, triesReconnect, observations, lastDecided, switchOf}
 use Rattle.history.specs.Account.{acceptedCalls}
 use Rattle.history.specs.Letters.{moveLetter, letterOf, letterAfter, TableMove, rowA, rowAFromReady, rowB, rowC, rowD, rowE, rowF}
 use Rattle.history.specs.Letters.{rowG, rowH, AnswersLetter, byRow, unmoved, modeZero}
@@ -47,8 +46,8 @@ triedG f h ps = triesDisconnect f (λ k. observations f k h) (λ k. observations
 abbrev pub triedH : AnyFresh → History → List ℤ → Bool
 triedH f h ps = triesReconnect f (λ k. observations f k h) (λ k. observations f k (sampled ps ∷ h))
 
-pub last-decided : (f : AnyFresh) (h : History) → OneOrTwo (last (decides f) 1 h)
-unfolding last
+pub last-decided : (f : AnyFresh) (h : History) → OneOrTwo (lastDecided f h)
+unfolding observations lastDecided
 last-decided f [] = one
 last-decided f (sampled ps ∷ h) =
     decided-sample (spell h) (triedG f h ps) (not (eqb (modeOf f h) 0)) (triedH f h ps && among (5 ∷ 6 ∷ []) (modeOf f h)) (last-decided f h)
@@ -121,7 +120,7 @@ stays : (e : Effect) (from : ℕ) → ByRule e from from
 stays e from = unmoved (rw (eq-eqb from from refl)) refl
 
 letter-rule : (f : AnyFresh) (e : Effect) (h : History) → AnswersLetter (letterOf f e h) e (switchOf f h) (switchOf f (e ∷ h))
-unfolding switchOf spell last
+unfolding switchOf spell last observations lastDecided
 letter-rule f (sampled ps) h =
     sample-rule ps (spell h) (triedG f h ps) (not (eqb (modeOf f h) 0)) (triedH f h ps && among (5 ∷ 6 ∷ []) (modeOf f h)) (last-decided f h)
 letter-rule f (requested remoteDisconnect) h = disconnect-rule (spell h) (last-decided f h)

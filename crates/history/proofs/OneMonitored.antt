@@ -11,8 +11,8 @@ use Rattle.base.specs.Tests.{among, any, numbersFrom, gathered}
 use Rattle.events.specs.Line.{line}
 use Rattle.history.specs.Effects.{AnyFresh, sampled}
 use Rattle.history.specs.Last.{History, otherwise, given, last, modeOf, clockOf}
-use Rattle.history.specs.Limiter.{monitoredValues, exceededOf}
-use Rattle.history.specs.Switch.{spell, decides, switchOf}
+use Rattle.history.specs.Limiter.{monitoredValues}
+use Rattle.history.specs.Switch.{spell, observations, lastDecided, decides, switchOf, exceededOf}
 use Rattle.history.specs.Logs.{when, localCode}
 use Rattle.history.specs.Laws.{overFiring, underFiring, OneMonitoredValue}
 
@@ -48,9 +48,9 @@ switch-sampled :
     (f : AnyFresh)
     → monitoredValues f ≡ 0 ∷ []
     → (ps : List ℤ) (h : History)
-    → switchOf f (sampled ps ∷ h) ≡ cond (spell h) 0 (otherwise (decidesOne f ps h) (last (decides f) 1 h))
-unfolding switchOf spell last
-switch-sampled f one ps h = ap (λ (o : Option ℕ). cond (spell h) 0 (otherwise o (last (decides f) 1 h))) (sample-decides f one ps h)
+    → switchOf f (sampled ps ∷ h) ≡ cond (spell h) 0 (otherwise (decidesOne f ps h) (lastDecided f h))
+unfolding switchOf spell last observations lastDecided
+switch-sampled f one ps h = ap (λ (o : Option ℕ). cond (spell h) 0 (otherwise o (lastDecided f h))) (sample-decides f one ps h)
 
 -- a switch that stays logs nothing
 stays : (v : ℕ) → not (eqb v v) ≡ false
@@ -84,5 +84,5 @@ one-monitored-value f t e =
           ap (when (eqb n 3))
           (rw (switch-sampled f one ps h, one)
           (firing-lines (clockOf f (sampled ps ∷ h)) (exceededOf f 0 h) (exceededOf f 0 (sampled ps ∷ h)) (eqb (modeOf f h) 0)
-          (among (5 ∷ 6 ∷ []) (modeOf f h)) (spell h) (last (decides f) 1 h)));
+          (among (5 ∷ 6 ∷ []) (modeOf f h)) (spell h) (lastDecided f h)));
     }

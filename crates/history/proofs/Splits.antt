@@ -19,14 +19,14 @@ use Rattle.history.specs.Effects.{AnyFresh, remoteDisconnect, remoteReco
 use Rattle.history.specs.Effects.{requested, modeSet, limitsSet, clockSet, occurred, filterSet, bitsCleared, logCleared}
 use Rattle.history.specs.Last.{History, otherwise, given, last, modeIn, modeOf, Limits, limits, limitsIn, limitsOf, filterIn, filterOf, clockIn}
 use Rattle.history.specs.Last.{samplesSince, clockOf}
-use Rattle.history.specs.Switch.{spellEdge, spell, decides, switchOf}
+use Rattle.history.specs.Switch.{spellEdge, spell, observations, lastDecided, decides, switchOf}
 use Rattle.history.specs.Registers.{raises, clears, stands, bitsOf}
 use Rattle.history.specs.Logs.{owedBy, clearsLog, owed}
 use Rattle.history.specs.Splits.{NonePicks, Latest, LatestElse, Ongoing, samplesIn, ClockSince, lastSet, neverSet, InSpell, owedBetween, NotCleared}
 use Rattle.history.specs.Splits.{OwedSince, lastClear, neverCleared}
 use Rattle.history.proofs.Lists.{each-first, each-rest, each-only, latest-or-none, kept, latest-split, ongoing-split}
 
-some≢none : {A : Type 0} {a : A} → Path (Option A) (some a) none → ⊥
+pub some≢none : {A : Type 0} {a : A} → Path (Option A) (some a) none → ⊥
 some≢none q = let z : _≡_ {A = ℕ} 0 1 = cc in omega arith
 
 -- ---- 'last accepted, else fresh'
@@ -200,8 +200,8 @@ outside h n = go (spell h) refl
 
 -- 'Otherwise the last deciding call rules: fresh [gives 1]'
 pub switch-outside : (f : AnyFresh) (h : History) (v : ℕ) → ¬ InSpell h → (switchOf f h ≡ v) ↔ LatestElse (decides f) 1 h v
-unfolding switchOf
-switch-outside f h v n = rw (outside h n) (last-split (decides f) 1 h v)
+unfolding switchOf observations lastDecided
+switch-outside f h v n = rw (outside h n) (latest-split (decides f) (lastDecided f) (λ e h. refl) h v)
 
 -- outside a spell a remote reconnect decides in modes 2 and 4 alone
 pub reconnect-outside-decides : (f : AnyFresh) (h : History) → ¬ InSpell h
@@ -313,9 +313,9 @@ owed-more f n (e ∷ later) before c =
 abbrev clearing : ℕ → Effect → History → Option Bool
 clearing n e h = given (clearsLog n e) true
 
-clearing-some : (x v : Bool) → given x true ≡ some v → x ≡ true
-clearing-some true v q = refl
-clearing-some false v q = absurd (some≢none (sym q))
+pub given-some : (x v : Bool) → given x true ≡ some v → x ≡ true
+given-some true v q = refl
+given-some false v q = absurd (some≢none (sym q))
 
 clearing-none : (n : ℕ) (e : Effect) → given (clearsLog n e) true ≡ none → e ≢ logCleared n
 clearing-none n e q c = some≢none (rw (c, eq-eqb n n refl) at q)
@@ -341,7 +341,7 @@ owed-split f n h ls = (λ e. subst (OwedSince f n h) e (go (latest-or-none (clea
     go : ((v : Bool) × Latest (clearing n) h v) ⊎ NonePicks (clearing n) h [] → OwedSince f n h (owed f n h)
     go (inl w) =
         let l = w .1 in
-        let q = clears-only n (l .entry) (clearing-some (clearsLog n (l .entry)) (w .0) (l .picks)) in
+        let q = clears-only n (l .entry) (given-some (clearsLog n (l .entry)) (w .0) (l .picks)) in
         let s = rw q at (l .split) in
         let c = rw q at (each-only (λ e h. clearing-none n e) (l .noneLater)) in
         lastClear (l .later) (l .before) s c (after (l .later) (l .before) s c)

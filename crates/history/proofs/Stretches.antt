@@ -5,44 +5,70 @@ use mathlib.Core.Bool.{Bool, true, false, not, _&&_, cond, Bool·beq, false≢tr
 use mathlib.Core.List.{List, [], _∷_, _++_, map, map-append, append-assoc, append-nil}
 use mathlib.Core.Logic.{_↔_, _≢_}
 use mathlib.Core.Option.{some}
-use lib.Dec.{leb, leb·zero, leb·suc-zero, leb·suc-suc}
+use lib.Dec.{eqb, leb, leb·zero, leb·suc-zero, leb·suc-suc}
 use lib.IntN.{ℤ}
 use lib.ListN.{length, take, drop, replicate}
-use Rattle.history.specs.Effects.{AnyFresh, Effect, sampled, requested, modeSet, limitsSet, clockSet, occurred, filterSet, bitsCleared, logCleared}
-use Rattle.history.specs.Last.{History, otherwise, given, last, limitsOf}
+use lib.Signed.{ltZ}
+use Rattle.history.specs.Effects.{AnyFresh, remoteDisconnect, remoteReconnect, manualDisconnect, manualReconnect, Effect, sampled, requested}
+use Rattle.history.specs.Effects.{modeSet, limitsSet, clockSet, occurred, filterSet, bitsCleared, logCleared}
+use Rattle.history.specs.Last.{History, otherwise, given, last, limitsOf, thresholdOf, numberAt}
 use Rattle.history.specs.Limiter.{Observation, setting, judged, durationOf, duration, sinceSetting, allAre, stretchEnds, exceeded, trailing}
-use Rattle.history.specs.Limiter.{observations, exceededOf, runOf}
+use Rattle.history.specs.Switch.{switchBy, observations, lastDecided, exceededOf, runOf}
 use Rattle.history.specs.Splits.{LatestElse, InForce, FullStretch, stretchAt, Trailing, all, broken}
 use Rattle.history.proofs.Lists.{latest-split}
 
--- 'Other calls between don't break it': the limiter sees settings and samples alone
+-- what the limiter sees in a sample and in a setting
+pub sample-seen : (f : AnyFresh) (k : ℕ) (ps : List ℤ) (h : History)
+    → observations f k (sampled ps ∷ h) ≡ judged (ltZ (thresholdOf f k h) (numberAt ps k)) ∷ observations f k h
+unfolding observations
+sample-seen f k ps h = refl
+
+pub setting-seen : (f : AnyFresh) (k : ℕ) (ts : List ℤ) (o u : ℕ) (h : History)
+    → observations f k (limitsSet ts o u ∷ h) ≡ setting o u ∷ observations f k h
+unfolding observations
+setting-seen f k ts o u h = refl
+
+-- 'Other calls between don't break it': the limiter sees settings, samples, and manual reconnects alone
 pub others-unseen :
     (f : AnyFresh) (k : ℕ) (e : Effect) (h : History)
     → ((ps : List ℤ) → e ≢ sampled ps)
     → ((ts : List ℤ) (o u : ℕ) → e ≢ limitsSet ts o u)
+    → e ≢ requested manualReconnect
     → observations f k (e ∷ h) ≡ observations f k h
 unfolding observations
-others-unseen f k (sampled ps) h s l = absurd (s ps refl)
-others-unseen f k (requested q) h s l = refl
-others-unseen f k (modeSet n) h s l = refl
-others-unseen f k (limitsSet ts o u) h s l = absurd (l ts o u refl)
-others-unseen f k (clockSet n) h s l = refl
-others-unseen f k (occurred r) h s l = refl
-others-unseen f k (filterSet r n) h s l = refl
-others-unseen f k (bitsCleared r n) h s l = refl
-others-unseen f k (logCleared n) h s l = refl
+others-unseen f k (sampled ps) h s l m = absurd (s ps refl)
+others-unseen f k (requested remoteDisconnect) h s l m = refl
+others-unseen f k (requested remoteReconnect) h s l m = refl
+others-unseen f k (requested manualDisconnect) h s l m = refl
+others-unseen f k (requested manualReconnect) h s l m = absurd (m refl)
+others-unseen f k (modeSet n) h s l m = refl
+others-unseen f k (limitsSet ts o u) h s l m = absurd (l ts o u refl)
+others-unseen f k (clockSet n) h s l m = refl
+others-unseen f k (occurred r) h s l m = refl
+others-unseen f k (filterSet r n) h s l m = refl
+others-unseen f k (bitsCleared r n) h s l m = refl
+others-unseen f k (logCleared n) h s l m = refl
 
 sample-more : (c : Bool) {os : List Observation} → InForce os → InForce (judged c ∷ os)
 sample-more c i =
     let split = ap (λ (os : List Observation). judged c ∷ os) (i .split) in
     record { samples = c ∷ i .samples; over = i .over; under = i .under; before = i .before; split = split }
 
+-- a setting with nothing before it, or what was seen
+only-setting : (x : Bool) (o u : ℕ) {os : List Observation} → InForce os → InForce (cond x (setting o u ∷ []) os)
+only-setting true o u i = record { samples = []; over = o; under = u; before = []; split = refl }
+only-setting false o u i = i
+
 -- 'A limiter setting is fresh or an accepted call 7': there is always one
 pub in-force : (f : AnyFresh) (k : ℕ) (h : History) → InForce (observations f k h)
 unfolding observations
 in-force f k [] = record { samples = []; over = f .over; under = f .under; before = []; split = refl }
 in-force f k (sampled ps ∷ h) = sample-more _ (in-force f k h)
-in-force f k (requested q ∷ h) = in-force f k h
+in-force f k (requested remoteDisconnect ∷ h) = in-force f k h
+in-force f k (requested remoteReconnect ∷ h) = in-force f k h
+in-force f k (requested manualDisconnect ∷ h) = in-force f k h
+in-force f k (requested manualReconnect ∷ h) =
+    only-setting (eqb (switchBy h (lastDecided f h)) 2) (limitsOf f h .over) (limitsOf f h .under) (in-force f k h)
 in-force f k (modeSet n ∷ h) = in-force f k h
 in-force f k (limitsSet ts o u ∷ h) = record { samples = []; over = o; under = u; before = observations f k h; split = refl }
 in-force f k (clockSet n ∷ h) = in-force f k h
@@ -62,12 +88,22 @@ duration-is b [] o u os = refl
 duration-is b (x ∷ xs) o u os = duration-is b xs o u os
 
 -- the durations in force are those last accepted, else fresh
-durations-last : (f : AnyFresh) (k : ℕ) (h : History) (b : Bool)
+either-duration : (x b : Bool) (o u : ℕ) (os : List Observation) → duration b os ≡ durationOf b o u
+    → duration b (cond x (setting o u ∷ []) os) ≡ durationOf b o u
+unfolding duration
+either-duration true b o u os e = refl
+either-duration false b o u os e = e
+
+pub durations-last : (f : AnyFresh) (k : ℕ) (h : History) (b : Bool)
     → duration b (observations f k h) ≡ durationOf b (limitsOf f h .over) (limitsOf f h .under)
 unfolding observations duration last
 durations-last f k [] b = refl
 durations-last f k (sampled ps ∷ h) b = durations-last f k h b
-durations-last f k (requested q ∷ h) b = durations-last f k h b
+durations-last f k (requested remoteDisconnect ∷ h) b = durations-last f k h b
+durations-last f k (requested remoteReconnect ∷ h) b = durations-last f k h b
+durations-last f k (requested manualDisconnect ∷ h) b = durations-last f k h b
+durations-last f k (requested manualReconnect ∷ h) b =
+    either-duration (eqb (switchBy h (lastDecided f h)) 2) b (limitsOf f h .over) (limitsOf f h .under) (observations f k h) (durations-last f k h b)
 durations-last f k (modeSet n ∷ h) b = durations-last f k h b
 durations-last f k (limitsSet ts o u ∷ h) b = refl
 durations-last f k (clockSet n ∷ h) b = durations-last f k h b

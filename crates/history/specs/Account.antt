@@ -9,8 +9,8 @@ use Rattle.events.specs.Line.{Line}
 use Rattle.events.specs.Table.{EventRow}
 use Rattle.history.specs.Effects.{AnyCall, AnyFresh, alarms, errors, Reading, refused, accepted, reading}
 use Rattle.history.specs.Last.{History, modeOf, limitsOf, thresholdOf, filterOf, clockOf}
-use Rattle.history.specs.Limiter.{monitoredValues, exceededOf, runOf}
-use Rattle.history.specs.Switch.{switchOf}
+use Rattle.history.specs.Limiter.{monitoredValues}
+use Rattle.history.specs.Switch.{switchOf, exceededOf, runOf}
 use Rattle.history.specs.Registers.{bitsOf}
 use Rattle.history.specs.Logs.{logOf}
 

@@ -13,8 +13,8 @@ use Rattle.calls.specs.declared.Call.{Call}
 use Rattle.calls.specs.declared.Call.the-variants.{Sample, RemoteDisconnect, ManualReconnect, SetMode, SetLimiter, Event, Script}
 use Rattle.history.specs.Effects.{Reading, refused, accepted, reading}
 use Rattle.history.specs.Last.{last, samplesSince}
-use Rattle.history.specs.Limiter.{duration, sinceSetting, allAre, exceeded, trailing, observations}
-use Rattle.history.specs.Switch.{spell, switchOf}
+use Rattle.history.specs.Limiter.{duration, sinceSetting, allAre, exceeded, trailing}
+use Rattle.history.specs.Switch.{spell, observations, lastDecided, switchOf}
 use Rattle.history.specs.Registers.{stands}
 use Rattle.history.specs.Logs.{owed}
 use Rattle.history.specs.Account.{acceptedCalls, openings}
@@ -27,7 +27,7 @@ fresh m t o u c = record { mode = m; threshold = pos t; over = o; under = u; clo
 -- the account by the built-in table; to unfold it is to unfold what it is made of
 unfoldable pub builtInAccount : Fresh → List Call → Account
 unfolding every any numbersFrom gathered among bit number newest builtIn lookup reading last samplesSince duration sinceSetting allAre exceeded trailing
-    observations spell switchOf stands owed acceptedCalls openings
+    observations lastDecided spell switchOf stands owed acceptedCalls openings
 builtInAccount f calls = account builtIn f calls
 
 -- '.. refusal or 0 ..'
@@ -81,12 +81,12 @@ pub record WorkedExample : Type 0 where
       ∷ (14, 0, 1, 2)
       ∷ (15, 2, 1, 2)
       ∷ []
-  -- 'Log 3 then: 65, 64, 61 at 1003; 66, 62, 59, 63 at 1006'
+  -- 'Log 3 then: 65, 64, 61 at 1003; .. 62, 59, 63 at 1006'; document 02, A5: 'The 66 drops out of 01's example log'
   pub logsThen :
       builtInAccount exampleSettings exampleCalls .logs
       ≡ []
       ∷ []
-      ∷ (line 1003 65 ∷ line 1003 64 ∷ line 1003 61 ∷ line 1006 66 ∷ line 1006 62 ∷ line 1006 59 ∷ line 1006 63 ∷ [])
+      ∷ (line 1003 65 ∷ line 1003 64 ∷ line 1003 61 ∷ line 1006 62 ∷ line 1006 59 ∷ line 1006 63 ∷ [])
       ∷ []
   -- '.. power −2,147,483,648 is not over 0 ..'
   pub lowestPower : builtInAccount (fresh 6 0 1 1 1000) (Sample (negsuc 2147483647) ∷ []) .exceeded ≡ false

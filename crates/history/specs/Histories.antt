@@ -14,8 +14,8 @@ use Rattle.calls.specs.declared.Letter.the-variants.{A, B, C, D, E, F, G, H, No
 use Rattle.calls.specs.declared.Call.{Call}
 use Rattle.calls.specs.declared.Call.the-variants.{Sample, RemoteDisconnect, RemoteReconnect, ManualDisconnect, ManualReconnect, SetMode, SetLimiter}
 use Rattle.calls.specs.declared.Call.the-variants.{SetClock, Event, SetAlarmFilter, SetErrorFilter, ClearAlarms, ClearErrors, ClearLog, Script}
-use Rattle.history.specs.Effects.{remoteDisconnect, manualDisconnect, manualReconnect, AnyCall, sample, request, setLimiter, sampled, requested}
-use Rattle.history.specs.Effects.{reading}
+use Rattle.history.specs.Effects.{remoteDisconnect, manualDisconnect, manualReconnect, AnyCall, sample, request, setMode, setLimiter, sampled}
+use Rattle.history.specs.Effects.{requested, reading}
 use Rattle.history.specs.Switch.{decides}
 use Rattle.history.specs.Account.{AnyAccount, accountOf, anyAccount}
 use Rattle.history.specs.OnePhase.{Fresh, asFresh, letter}
@@ -118,8 +118,50 @@ pub record Histories : Type 0 where
   pub firings-decide :
       map (λ m. switchAfterEach (fresh m 3 1 1 1000) [] (overSample ∷ underSample ∷ [])) (0 ∷ 1 ∷ 4 ∷ 5 ∷ 6 ∷ [])
       ≡ (1 ∷ 1 ∷ []) ∷ (2 ∷ 2 ∷ []) ∷ (2 ∷ 2 ∷ []) ∷ (2 ∷ 1 ∷ []) ∷ (2 ∷ 1 ∷ []) ∷ []
-  -- 'A sample that changes Exceeded is a firing': none again while Exceeded, after a manual reconnect
-  pub firing-once : switchAfterEach (fresh 1 3 1 1 1000) [] (overSample ∷ ManualReconnect ∷ overSample ∷ []) ≡ 2 ∷ 1 ∷ 1 ∷ []
+  -- 'A sample that changes Exceeded is a firing': none again while Exceeded
+  pub firing-once : switchAfterEach (fresh 1 3 1 1 1000) [] (overSample ∷ SetMode 0 ∷ SetMode 1 ∷ overSample ∷ []) ≡ 2 ∷ 1 ∷ 1 ∷ 1 ∷ []
+  -- document 02, A5: 'A holder who reconnects with the kettle still on ..' is cut again, after Over samples and no sooner
+  pub armed-again :
+      switchAfterEach (fresh 1 3 2 2 1000) [] (overSample ∷ overSample ∷ ManualReconnect ∷ overSample ∷ overSample ∷ []) ≡ 1 ∷ 2 ∷ 1 ∷ 1 ∷ 2 ∷ []
+  pub armed-lines :
+      switchShows (fresh 1 3 2 2 1000) (overSample ∷ overSample ∷ ManualReconnect ∷ overSample ∷ overSample ∷ [])
+      ≡ (2, 2, 65 ∷ 64 ∷ 61 ∷ 65 ∷ 64 ∷ [])
+  -- document 02, A5: '.. acts as a limiter setting ..': of the numbers in force, not of the fresh ones
+  pub armed-in-force :
+      map (λ calls. limiterValues (fresh 1 3 5 5 1000) (SetLimiter (pos 3) 2 4 ∷ overSample ∷ overSample ∷ ManualReconnect ∷ calls))
+      ((overSample ∷ []) ∷ (overSample ∷ overSample ∷ []) ∷ [])
+      ≡ (2, 4, false, 1) ∷ (2, 4, true, 0) ∷ []
+  -- document 02, A5: '.. also ends Exceeded and sets Run 0 ..': Run too where it is not Exceeded
+  pub armed-values :
+      map (limiterValues (fresh 1 3 3 3 1000))
+      ((overSample ∷ overSample ∷ overSample ∷ underSample ∷ ManualReconnect ∷ []) ∷ (overSample ∷ overSample ∷ ManualDisconnect ∷ ManualReconnect ∷ []) ∷ [])
+      ≡ (3, 3, false, 0) ∷ (3, 3, false, 0) ∷ []
+  -- document 02, A5: '.. without a line': no 66, then or later
+  pub armed-unlogged :
+      switchShows (fresh 5 3 1 2 1000) (overSample ∷ ManualReconnect ∷ underSample ∷ underSample ∷ underSample ∷ []) ≡ (1, 1, 65 ∷ 64 ∷ 61 ∷ [])
+  -- document 02, A5: '.. that moves the switch ..': one that moves nothing leaves Exceeded and Run, with the switch Connected and inside a spell
+  pub unmoved-leaves-run :
+      map (limiterValues (fresh 1 3 3 3 1000))
+      ((overSample ∷ overSample ∷ ManualReconnect ∷ [])
+      ∷ (overSample ∷ overSample ∷ overSample ∷ underSample ∷ RemoteDisconnect ∷ ManualReconnect ∷ [])
+      ∷ [])
+      ≡ (3, 3, false, 2) ∷ (3, 3, true, 1) ∷ []
+  -- document 02, A5: '.. and earlier full stretches no longer count', also after a later call 7
+  pub armed-for-good :
+      map (limiterValues (fresh 1 3 2 2 1000))
+      ((overSample ∷ overSample ∷ ManualReconnect ∷ SetLimiter (pos 3) 2 2 ∷ [])
+      ∷ (overSample ∷ overSample ∷ ManualReconnect ∷ overSample ∷ SetLimiter (pos 3) 1 1 ∷ underSample ∷ [])
+      ∷ (overSample ∷ ManualDisconnect ∷ ManualReconnect ∷ overSample ∷ [])
+      ∷ [])
+      ≡ (2, 2, false, 0) ∷ (1, 1, false, 0) ∷ (2, 2, false, 1) ∷ []
+  -- document 02, A5: '.. armed again by the key': a remote reconnect from Ready (A1) does not arm it, nor does mode 0
+  pub armed-by-key-alone :
+      map (λ calls. switchAfterEach (fresh 2 3 1 1 1000) [] (overSample ∷ (calls ++ (overSample ∷ []))))
+      ((ManualReconnect ∷ []) ∷ (RemoteReconnect ∷ []) ∷ (SetMode 0 ∷ SetMode 2 ∷ []) ∷ [])
+      ≡ (2 ∷ 1 ∷ 2 ∷ []) ∷ (2 ∷ 1 ∷ 1 ∷ []) ∷ (2 ∷ 1 ∷ 1 ∷ 1 ∷ []) ∷ []
+  pub values-by-key-alone :
+      map (λ c. limiterValues (fresh 2 3 1 2 1000) (overSample ∷ underSample ∷ c ∷ [])) (ManualReconnect ∷ RemoteReconnect ∷ SetMode 0 ∷ [])
+      ≡ (1, 2, false, 0) ∷ (1, 2, true, 1) ∷ (1, 2, true, 1) ∷ []
   -- 'a remote reconnect ending a spell in mode 2 or 4' gives 1, 'in another mode' 2
   pub reconnect-decides :
       map (λ m. switchAfterEach (fresh m 3 1 1 1000) [] (RemoteDisconnect ∷ RemoteReconnect ∷ [])) (1 ∷ 2 ∷ 3 ∷ 4 ∷ 5 ∷ 6 ∷ [])
@@ -228,11 +270,11 @@ pub record Histories : Type 0 where
       ≡ ((false, 1) ∷ (false, 0) ∷ [], []) ∷ ((false, 1) ∷ (true, 0) ∷ [], line 1002 65 ∷ line 1002 64 ∷ []) ∷ []
   -- document 02: 'Each firing logs 65 or 66 in line order; .. g is tried once if a line fired over, h once if a line fired under and none remains exceeded'
   pub several-firings :
-      getD (twoValues 1 1 (both 9 9 ∷ both 0 9 ∷ both 0 0 ∷ both 9 0 ∷ request manualReconnect ∷ both 0 9 ∷ []) .logs) 2 []
+      getD (twoValues 1 1 (both 9 9 ∷ both 0 9 ∷ both 0 0 ∷ both 9 0 ∷ setMode 0 ∷ setMode 5 ∷ both 0 9 ∷ []) .logs) 2 []
       ≡ line 1001 65 ∷ line 1001 65 ∷ line 1001 64
       ∷ line 1002 66
       ∷ line 1003 66 ∷ line 1003 69
-      ∷ line 1004 65 ∷ line 1004 64 ∷ line 1004 61
+      ∷ line 1004 65 ∷ line 1004 64 ∷ line 1004 63
       ∷ line 1005 66 ∷ line 1005 65 ∷ line 1005 64
       ∷ []
   -- document 02: 'Fresh and call 7 take four thresholds, 4 if one is negative ..'; here two
@@ -244,3 +286,14 @@ pub record Histories : Type 0 where
   pub several-runs :
       map (λ calls. limiterShows (twoValues 3 3 (both 9 9 ∷ both 9 9 ∷ calls))) ([] ∷ (setLimiter (pos 0 ∷ pos 0 ∷ []) 3 3 ∷ []) ∷ [])
       ≡ ((false, 2) ∷ (false, 2) ∷ [], []) ∷ ((false, 0) ∷ (false, 0) ∷ [], line 1002 67 ∷ []) ∷ []
+  -- document 02: 'A5's reconnect acts on all four lines ..', here on both: each is no longer Exceeded, has Run 0, and may fire again
+  pub several-armed :
+      map (λ calls. limiterShows (twoValues 2 2 (both 9 9 ∷ both 9 9 ∷ both 0 9 ∷ calls)))
+      ([] ∷ (request manualReconnect ∷ []) ∷ (request manualReconnect ∷ both 0 9 ∷ both 0 9 ∷ []) ∷ [])
+      ≡ ((true, 1) ∷ (true, 0) ∷ [], line 1002 65 ∷ line 1002 65 ∷ line 1002 64 ∷ [])
+      ∷ ((false, 0) ∷ (false, 0) ∷ [], line 1002 65 ∷ line 1002 65 ∷ line 1002 64 ∷ line 1003 61 ∷ [])
+      ∷ (
+        (false, 0) ∷ (true, 0) ∷ [],
+        line 1002 65 ∷ line 1002 65 ∷ line 1002 64 ∷ line 1003 61 ∷ line 1005 65 ∷ line 1005 64 ∷ [],
+      )
+      ∷ []

@@ -9,6 +9,7 @@ use mathlib.Core.Logic.{_↔_, _≢_}
 use mathlib.Core.Option.{none, some}
 use lib.Dec.{eqb}
 use lib.IntN.{ℤ}
+use lib.Signed.{ltZ}
 use lib.ListN.{length}
 use Rattle.base.specs.Bits.{bit}
 use Rattle.base.specs.Tests.{among}
@@ -18,12 +19,13 @@ use Rattle.calls.specs.declared.Letter.{Letter}
 use Rattle.calls.specs.declared.Letter.the-variants.{None}
 use Rattle.history.specs.Effects.{AnyFresh, AnyCall, remoteReconnect, manualDisconnect, manualReconnect, WhichRegister, Effect, sampled, requested}
 use Rattle.history.specs.Effects.{modeSet, limitsSet, refused, reading}
-use Rattle.history.specs.Last.{History, given, modeIn, modeOf, Limits, limits, limitsIn, limitsOf, filterIn, filterOf, clockOf}
-use Rattle.history.specs.Limiter.{Observation, stretchEnds, firesOver, firesUnder, observations, exceededOf, runOf}
-use Rattle.history.specs.Switch.{spell, decides, switchOf}
+use Rattle.history.specs.Last.{History, given, modeIn, modeOf, Limits, limits, limitsIn, limitsOf, thresholdOf, numberAt, filterIn, filterOf, clockOf}
+use Rattle.history.specs.Limiter.{Observation, setting, judged, stretchEnds, firesOver, firesUnder}
+use Rattle.history.specs.Switch.{spell, observations, decides, switchOf, exceededOf, runOf}
 use Rattle.history.specs.Registers.{raises, clears, stands, bitsOf}
 use Rattle.history.specs.Logs.{when, moves, owedBy, owed}
-use Rattle.history.specs.Splits.{LatestElse, Ongoing, ClockSince, InSpell, OwedSince, openingPrefixes, InForce, FullStretch, stretchAt, Trailing}
+use Rattle.history.specs.Splits.{LatestElse, Ongoing, ClockSince, InSpell, OwedSince, openingPrefixes, SeenSince, InForce, FullStretch}
+use Rattle.history.specs.Splits.{stretchAt, Trailing}
 use Rattle.history.specs.Account.{acceptedCalls, opens, openings, accountOf, accountAfter}
 use Rattle.history.specs.Letters.{letterOf, letterAfter, AnswersLetter}
 
@@ -133,11 +135,45 @@ pub record LawsOf (f : AnyFresh) : Type 0 where
   pub limitsInForce :
       (k : ℕ) (h : History) (i : InForce (observations f k h))
       → (i .over ≡ limitsOf f h .over) × (i .under ≡ limitsOf f h .under)
+  -- '.. by the settings in force at that sample ..': a sample is over if its power is above the threshold last accepted before it
+  pub sampleSeen :
+      (k : ℕ) (ps : List ℤ) (h : History)
+      → observations f k (sampled ps ∷ h) ≡ judged (ltZ (thresholdOf f k h) (numberAt ps k)) ∷ observations f k h
+  -- 'A limiter setting is .. an accepted call 7'
+  pub settingSeen :
+      (k : ℕ) (ts : List ℤ) (o u : ℕ) (h : History)
+      → observations f k (limitsSet ts o u ∷ h) ≡ setting o u ∷ observations f k h
+  -- document 02, A5: 'a manual reconnect that moves the switch ..': 'In the account such a reconnect acts as a limiter setting, and earlier full stretches no
+  -- longer count': the limiter has then seen the setting in force and nothing before it
+  pub movedArms :
+      (k : ℕ) (h : History)
+      → moves f (requested manualReconnect) h ≡ true
+      → observations f k (requested manualReconnect ∷ h) ≡ setting (limitsOf f h .over) (limitsOf f h .under) ∷ []
+  -- document 02, A5: '.. also ends Exceeded and sets Run 0 ..', of each monitored value
+  pub movedEnds :
+      (k : ℕ) (h : History)
+      → moves f (requested manualReconnect) h ≡ true
+      → (exceededOf f k (requested manualReconnect ∷ h) ≡ false) × (runOf f k (requested manualReconnect ∷ h) ≡ 0)
+  -- document 02, A5: '.. that moves the switch ..': any other manual reconnect is unseen
+  pub unmovedUnseen :
+      (k : ℕ) (h : History)
+      → moves f (requested manualReconnect) h ≡ false
+      → observations f k (requested manualReconnect ∷ h) ≡ observations f k h
+  -- document 02, A5: '.. earlier full stretches no longer count': the limiter has seen what came since the last such reconnect, or since fresh
+  pub armedSince :
+      (k : ℕ) (h : History) (os : List Observation)
+      → (observations f k h ≡ os) ↔ SeenSince f k h os
+  -- document 02, A5: '.. without a line': a manual reconnect that moves the switch owes its own 61 alone, any other nothing
+  pub armedOwes :
+      (n : ℕ) (h : History)
+      → owedBy f n (requested manualReconnect) h
+      ≡ when (eqb n 3 && moves f (requested manualReconnect) h) (line (clockOf f h) 61 ∷ [])
   -- 'Other calls between don't break it'
   pub othersUnseen :
       (k : ℕ) (e : Effect) (h : History)
       → ((ps : List ℤ) → e ≢ sampled ps)
       → ((ts : List ℤ) (o u : ℕ) → e ≢ limitsSet ts o u)
+      → e ≢ requested manualReconnect
       → observations f k (e ∷ h) ≡ observations f k h
   -- 'A full over stretch ends at a sample if ..; a full under stretch likewise ..'
   pub fullStretch :

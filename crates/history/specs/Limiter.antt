@@ -1,14 +1,12 @@
--- Full stretches, Exceeded, Run and firings: what the limiter makes of its settings and samples of one monitored value, by looking back; and
--- what it sees of each monitored value in a history.
+-- Full stretches, Exceeded, Run and firings: what the limiter makes of its settings and samples of one monitored value, by looking back. What it sees
+-- of each monitored value in a history stands in Switch.
 use Prim.Native.Nat.{ℕ, suc}
 use mathlib.Core.Bool.{Bool, true, false, not, _&&_, cond, Bool·beq}
 use mathlib.Core.List.{List, [], _∷_}
 use lib.Dec.{leb}
 use lib.ListN.{length, take}
-use lib.Signed.{ltZ}
 use Rattle.base.specs.Tests.{numbers}
-use Rattle.history.specs.Effects.{AnyFresh, Effect, sampled, requested, modeSet, limitsSet, clockSet, occurred, filterSet, bitsCleared, logCleared}
-use Rattle.history.specs.Last.{History, thresholdOf, numberAt}
+use Rattle.history.specs.Effects.{AnyFresh}
 
 -- what the limiter sees of a monitored value: a setting of Over and Under, or a sample, over or not
 pub data Observation : Type 0 where
@@ -20,7 +18,7 @@ abbrev pub durationOf : Bool → ℕ → ℕ → ℕ
 durationOf true o u = o
 durationOf false o u = u
 
--- the duration '.. by the settings in force at that sample ..' (0 if there is none; there always is one, the fresh one: settingInForce)
+-- the duration '.. by the settings in force at that sample ..' (0 if there is none; there always is one: settingInForce)
 unfoldable pub duration : Bool → List Observation → ℕ
 duration b [] = 0
 duration b (setting o u ∷ os) = durationOf b o u
@@ -74,29 +72,3 @@ monitoredValues f = numbers (length (f .thresholds))
 -- what the limiter has seen of each monitored value, newest first
 abbrev pub Observations : Type 0
 Observations = ℕ → List Observation
-
--- what the limiter has seen of monitored value k after a call, os being what it had seen before it. '.. by the settings in force at that sample ..': a
--- sample is judged by the threshold last accepted before it. 'Other calls between don't break it'
-abbrev pub observed : AnyFresh → ℕ → Effect → History → List Observation → List Observation
-observed f k (sampled ps) h os = judged (ltZ (thresholdOf f k h) (numberAt ps k)) ∷ os
-observed f k (requested q) h os = os
-observed f k (modeSet n) h os = os
-observed f k (limitsSet ts o u) h os = setting o u ∷ os
-observed f k (clockSet n) h os = os
-observed f k (occurred r) h os = os
-observed f k (filterSet s n) h os = os
-observed f k (bitsCleared s n) h os = os
-observed f k (logCleared n) h os = os
-
--- what the limiter has seen of monitored value k, newest first: 'A limiter setting is fresh or an accepted call 7'
-unfoldable pub observations : AnyFresh → ℕ → History → List Observation
-observations f k [] = setting (f .over) (f .under) ∷ []
-observations f k (e ∷ h) = observed f k e h (observations f k h)
-
--- Exceeded of monitored value k
-abbrev pub exceededOf : AnyFresh → ℕ → History → Bool
-exceededOf f k h = exceeded (observations f k h)
-
--- Run of monitored value k
-abbrev pub runOf : AnyFresh → ℕ → History → ℕ
-runOf f k h = run (observations f k h)

@@ -10,8 +10,8 @@ use Rattle.history.specs.Effects.{AnyFresh, RequestCall, remoteDisconnec
 use Rattle.history.specs.Effects.{alarms, errors, Effect, sampled, requested, modeSet, limitsSet, clockSet, occurred, filterSet, bitsCleared}
 use Rattle.history.specs.Effects.{logCleared}
 use Rattle.history.specs.Last.{History, clockOf}
-use Rattle.history.specs.Limiter.{firesOver, firesUnder, monitoredValues, observations}
-use Rattle.history.specs.Switch.{switchOf}
+use Rattle.history.specs.Limiter.{firesOver, firesUnder, monitoredValues}
+use Rattle.history.specs.Switch.{observations, switchOf}
 
 -- the lines, if the test passes
 abbrev pub when : Bool → List Line → List Line

@@ -8,15 +8,16 @@ use mathlib.Core.List.{List, [], _∷_, _++_, map}
 use mathlib.Core.Logic.{_≢_}
 use mathlib.Core.Option.{Option, none, some}
 use lib.Dec.{eqb}
+use lib.Signed.{ltZ}
 use lib.ListN.{replicate}
 use Rattle.base.specs.Numbers.{held}
 use Rattle.events.specs.Line.{Line, line}
 use Rattle.events.specs.Table.{EventRow}
-use Rattle.history.specs.Effects.{AnyFresh, AnyCall, remoteDisconnect, remoteReconnect, sampled, requested, modeSet, limitsSet, clockSet, occurred}
-use Rattle.history.specs.Effects.{filterSet, bitsCleared, logCleared}
-use Rattle.history.specs.Last.{History, given, clockIn, clockOf}
+use Rattle.history.specs.Effects.{AnyFresh, AnyCall, remoteDisconnect, remoteReconnect, manualReconnect, Effect, sampled, requested, modeSet}
+use Rattle.history.specs.Effects.{limitsSet, clockSet, occurred, filterSet, bitsCleared, logCleared}
+use Rattle.history.specs.Last.{History, given, limitsOf, thresholdOf, numberAt, clockIn, clockOf}
 use Rattle.history.specs.Limiter.{Observation, setting, judged, durationOf, stretchEnds}
-use Rattle.history.specs.Logs.{owedBy}
+use Rattle.history.specs.Logs.{moves, owedBy}
 use Rattle.history.specs.Account.{switchAfter}
 
 -- what is said of all later calls: P holds at each entry of `later`, with those before it, which are the rest of `later`, then `before`
@@ -117,6 +118,43 @@ openingPrefixes rows f (next ∷ prefix) =
     cond (eqb (switchAfter rows f prefix) 1 && not (eqb (switchAfter rows f (next ∷ prefix)) 1))
     (prefix ∷ openingPrefixes rows f prefix)
     (openingPrefixes rows f prefix)
+
+-- what the limiter sees of monitored value k in one call that does not arm it again: a sample, over or not, or a limiter setting
+abbrev pub seenIn : AnyFresh → ℕ → Effect → History → List Observation
+seenIn f k (sampled ps) h = judged (ltZ (thresholdOf f k h) (numberAt ps k)) ∷ []
+seenIn f k (requested q) h = []
+seenIn f k (modeSet n) h = []
+seenIn f k (limitsSet ts o u) h = setting o u ∷ []
+seenIn f k (clockSet n) h = []
+seenIn f k (occurred r) h = []
+seenIn f k (filterSet r n) h = []
+seenIn f k (bitsCleared r n) h = []
+seenIn f k (logCleared n) h = []
+
+-- in the calls of `later`, made after those of `before`, newest first
+unfoldable pub seenBetween : AnyFresh → ℕ → History → History → List Observation
+seenBetween f k [] before = []
+seenBetween f k (e ∷ later) before = seenIn f k e (later ++ before) ++ seenBetween f k later before
+
+-- document 02, A5: '.. a manual reconnect that moves the switch ..'
+pub record Arms (f : AnyFresh) (e : Effect) (h : History) : Type 0 where
+  pub isReconnect : e ≡ requested manualReconnect
+  pub isMove : moves f e h ≡ true
+
+-- document 02, A5: 'In the account such a reconnect acts as a limiter setting, and earlier full stretches no longer count': what the limiter has
+-- seen is the setting in force at the last one, and what came later; if there was none, the fresh setting and all that came later
+pub data SeenSince (f : AnyFresh) (k : ℕ) (h : History) (os : List Observation) : Type 0 where
+  lastArmed :
+      (later : History) (e : Effect) (before : History)
+      → h ≡ later ++ (e ∷ before)
+      → Arms f e before
+      → Each (λ e h. ¬ Arms f e h) later (e ∷ before)
+      → os ≡ seenBetween f k later (e ∷ before) ++ (setting (limitsOf f before .over) (limitsOf f before .under) ∷ [])
+      → SeenSince f k h os
+  neverArmed :
+      Each (λ e h. ¬ Arms f e h) h []
+      → os ≡ seenBetween f k h [] ++ (setting (f .over) (f .under) ∷ [])
+      → SeenSince f k h os
 
 -- '.. the settings in force ..': the last limiter setting that the limiter saw of a monitored value, and the samples since, newest first
 pub record InForce (os : List Observation) : Type 0 where

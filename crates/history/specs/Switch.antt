@@ -1,14 +1,16 @@
--- The switch, by the spells after remote disconnects and its last deciding call.
+-- The switch, by the spells after remote disconnects and its last deciding call; and what the limiter has seen of each monitored value. Each needs the
+-- other for the calls before: a firing may decide the switch, and a manual reconnect that moves it acts as a limiter setting (document 02, A5).
 use Prim.Native.Nat.{ℕ}
 use mathlib.Core.Bool.{Bool, true, false, not, _&&_, cond}
-use mathlib.Core.List.{[], _∷_}
+use mathlib.Core.List.{List, [], _∷_}
 use mathlib.Core.Option.{Option, none, some}
 use lib.Dec.{eqb}
+use lib.Signed.{ltZ}
 use Rattle.base.specs.Tests.{among, any}
 use Rattle.history.specs.Effects.{AnyFresh, remoteDisconnect, remoteReconnect, manualDisconnect, manualReconnect, Effect, sampled, requested}
 use Rattle.history.specs.Effects.{modeSet, limitsSet, clockSet, occurred, filterSet, bitsCleared, logCleared}
-use Rattle.history.specs.Last.{History, given, last, modeOf}
-use Rattle.history.specs.Limiter.{exceeded, firesOver, firesUnder, monitoredValues, Observations, observations}
+use Rattle.history.specs.Last.{History, otherwise, given, last, modeOf, limitsOf, thresholdOf, numberAt}
+use Rattle.history.specs.Limiter.{Observation, setting, judged, exceeded, run, firesOver, firesUnder, monitoredValues, Observations}
 
 -- 'A spell runs from an accepted remote disconnect to the next accepted remote reconnect or mode 0': what begins one (true) and what ends it
 -- (false). ('Spell' is document 01's term.)
@@ -67,10 +69,57 @@ decidesBy f bySample (filterSet s n) h = none
 decidesBy f bySample (bitsCleared s n) h = none
 decidesBy f bySample (logCleared n) h = none
 
+-- 'Inside one the switch is 0. Otherwise the last deciding call rules ..': by what that call gives
+abbrev pub switchBy : History → ℕ → ℕ
+switchBy h decided = cond (spell h) 0 decided
+
+-- what the limiter has seen of monitored value k after a call, os being what it had seen before it, and s the switch before it. '.. by the settings in
+-- force at that sample ..': a sample is judged by the threshold last accepted before it. 'Other calls between don't break it'. Document 02, A5: 'a manual
+-- reconnect that moves the switch', from 2, '.. acts as a limiter setting', that in force, '.. and earlier full stretches no longer count': what was seen
+-- before is left out
+abbrev pub observed : AnyFresh → ℕ → Effect → History → ℕ → List Observation → List Observation
+observed f k (sampled ps) h s os = judged (ltZ (thresholdOf f k h) (numberAt ps k)) ∷ os
+observed f k (requested remoteDisconnect) h s os = os
+observed f k (requested remoteReconnect) h s os = os
+observed f k (requested manualDisconnect) h s os = os
+observed f k (requested manualReconnect) h s os = cond (eqb s 2) (setting (limitsOf f h .over) (limitsOf f h .under) ∷ []) os
+observed f k (modeSet n) h s os = os
+observed f k (limitsSet ts o u) h s os = setting o u ∷ os
+observed f k (clockSet n) h s os = os
+observed f k (occurred r) h s os = os
+observed f k (filterSet r n) h s os = os
+observed f k (bitsCleared r n) h s os = os
+observed f k (logCleared n) h s os = os
+
+unfoldable mutual
+  -- what the limiter has seen of monitored value k, newest first: 'A limiter setting is fresh or an accepted call 7'
+  pub observations : AnyFresh → ℕ → History → List Observation
+  observations f k [] = setting (f .over) (f .under) ∷ []
+  observations f k (e ∷ h) = observed f k e h (switchBy h (lastDecided f h)) (observations f k h)
+
+  -- what the last deciding call gives, '.. fresh .. 1'. What the limiter has seen after the call is written out as in `observations`, since each of the
+  -- two asks the other of the calls before alone
+  pub lastDecided : AnyFresh → History → ℕ
+  lastDecided f [] = 1
+  lastDecided f (e ∷ h) =
+      otherwise
+      (decidesBy f
+      (firingDecides f h (λ k. observations f k h) (λ k. observed f k e h (switchBy h (lastDecided f h)) (observations f k h)))
+      e h)
+      (lastDecided f h)
+
 -- what a call decides
 abbrev pub decides : AnyFresh → Effect → History → Option ℕ
 decides f e h = decidesBy f (firingDecides f h (λ k. observations f k h) (λ k. observations f k (e ∷ h))) e h
 
 -- 'Inside one the switch is 0. Otherwise the last deciding call rules: fresh .. give 1 ..'
 unfoldable pub switchOf : AnyFresh → History → ℕ
-switchOf f h = cond (spell h) 0 (last (decides f) 1 h)
+switchOf f h = switchBy h (lastDecided f h)
+
+-- Exceeded of monitored value k
+abbrev pub exceededOf : AnyFresh → ℕ → History → Bool
+exceededOf f k h = exceeded (observations f k h)
+
+-- Run of monitored value k
+abbrev pub runOf : AnyFresh → ℕ → History → ℕ
+runOf f k h = run (observations f k h)

@@ -1,7 +1,7 @@
 // The limiter (DLMS class 71): samples above the threshold, counted.
 ghost use mathlib.Core.Path.{_≡_};
-ghost use Rattle.limiter.specs.Limiter.{isOver, isThreshold, isDuration, awaited, counts, withRun, watched, sampledPower, withSettings, soundLimiter};
-ghost use Rattle.limiter.specs.Laws.{Laws};
+ghost use Rattle.limiter.specs.Limiter.{isOver, isThreshold, isDuration, awaited, counts, withRun, watched, sampledPower, withSettings, armed, soundLimiter};
+ghost use Rattle.limiter.specs.Laws.{Laws, ArmedLaws};
 ghost use Rattle.limiter.specs.NearMisses.{NearMisses};
 
 pub struct Limiter {
@@ -119,5 +119,13 @@ impl Limiter {
         self.under = under;
         self.run = 0;
         self
+    }
+
+    // Armed again: whatever was seen before no longer counts.
+    pub fn arm(self) -> Limiter
+        ensures { λ r. ⌜ r ≡ armed self ⌝ }
+        ensures laws { λ _. ⌜ ArmedLaws ⌝ }
+    {
+        self.with_run(false, 0)
     }
 }

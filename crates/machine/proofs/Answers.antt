@@ -24,8 +24,8 @@ use Rattle.history.specs.Effects.{RequestCall, remoteDisconnect, remoteReconnec
 use Rattle.history.specs.Effects.{request as requestCall, setMode, setLimiter, setClock, event, setFilter, clearBits, clearLog, script, Effect, requested}
 use Rattle.history.specs.Effects.{listedModes, Reading, refused, accepted, readRequest, readLimits, readEvent, reading}
 use Rattle.machine.specs.Values.{Values, State}
-use Rattle.machine.specs.Machine.{Result, refusing, making, answeredWith, moving, decided, answering, requestResult, modeResult, limiterResult}
-use Rattle.machine.specs.Machine.{occurring, eventResult, clearLogResult, scriptResult, requestOf, result, Change, stateAfter}
+use Rattle.machine.specs.Machine.{Result, refusing, making, answeredWith, moving, decided, answering, armedValues, requestResult, modeResult}
+use Rattle.machine.specs.Machine.{limiterResult, occurring, eventResult, clearLogResult, scriptResult, requestOf, result, Change, stateAfter}
 use Rattle.machine.specs.Settings.{limitsAnswer}
 use Rattle.machine.specs.Ranges.{AnyInRange}
 use Rattle.machine.proofs.Effects.{readResult, Proper}
@@ -94,9 +94,9 @@ module _ (s : Values) where
       (rows-listed switchTable (requestOf q) (s .control .mode) _ ∙ table-lists q (s .control .mode))
     where
       go : (d : Decision) (b : Bool) → d ≡ decided s (requestOf q) → listed d ≡ b
-          → answering s d ≡ readResult s (cond b (accepted (requested q)) (refused 2))
-      go (Move t c o l) true e h = ap (λ (x : Decision). making (moving s [] x)) e
-      go Stay true e h = ap (λ (x : Decision). making (moving s [] x)) e
+          → answering (armedValues s (requestOf q)) d ≡ readResult s (cond b (accepted (requested q)) (refused 2))
+      go (Move t c o l) true e h = ap (λ (x : Decision). making (moving (armedValues s (requestOf q)) [] x)) e
+      go Stay true e h = ap (λ (x : Decision). making (moving (armedValues s (requestOf q)) [] x)) e
       go NotListed false e h = refl
       go (Move t c o l) false e h = cc
       go Stay false e h = cc

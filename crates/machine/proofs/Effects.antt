@@ -11,25 +11,41 @@ use Rattle.registers.specs.declared.Register.{Register}
 use Rattle.events.specs.Line.{isLog}
 use Rattle.events.specs.Table.{lawful}
 use Rattle.control.specs.declared.Control.{Control}
+use Rattle.control.specs.declared.Request.{Request}
+use Rattle.control.specs.declared.Request.the-variants as request
+use Rattle.control.specs.declared.Decision.{Decision}
+use Rattle.control.specs.declared.Decision.the-variants.{Move, Stay, NotListed}
 use Rattle.control.specs.Control.{modeDecision, inMode}
 use Rattle.limiter.specs.declared.Limiter.{Limiter}
+use Rattle.limiter.specs.Limiter.{armed}
 use Rattle.calls.specs.Calls.{Word}
 use Rattle.calls.specs.declared.Letter.the-variants.{None}
 use Rattle.history.specs.Effects.{AnyFresh, WhichRegister, alarms, errors, Effect, sampled, requested, modeSet, limitsSet, clockSet, occurred, filterSet}
 use Rattle.history.specs.Effects.{bitsCleared, logCleared, listedModes, Reading, refused, accepted}
 use Rattle.history.specs.Last.{History, modeOf, limitsOf, thresholdOf, filterOf, clockOf}
-use Rattle.history.specs.Limiter.{monitoredValues, exceededOf, runOf}
-use Rattle.history.specs.Switch.{switchOf}
+use Rattle.history.specs.Limiter.{monitoredValues}
+use Rattle.history.specs.Switch.{switchOf, exceededOf, runOf}
 use Rattle.history.specs.Registers.{bitsOf}
 use Rattle.history.specs.Account.{opens}
 use Rattle.machine.specs.Values.{Values, withControl, withLimiters}
-use Rattle.machine.specs.Machine.{Change, Result, refusing, making, owing, lineNow, moving, decided, requestOf, sampleResult, settingsEach}
-use Rattle.machine.specs.Machine.{clockResult, reported, filterResult, clearResult}
+use Rattle.machine.specs.Machine.{Change, Result, refusing, making, owing, lineNow, moving, decided, armedBy, armedValues, requestOf, sampleResult}
+use Rattle.machine.specs.Machine.{settingsEach, clockResult, reported, filterResult, clearResult}
+
+-- what holds of limiters and of the same limiters armed holds of those that a request leaves
+pub armed-or-not : (P : List Limiter → Type 0) (q : Request) (d : Decision) (ls : List Limiter) → P ls → P (map armed ls) → P (armedBy q d ls)
+armed-or-not P request.RemoteDisconnect d ls p a = p
+armed-or-not P request.RemoteReconnect d ls p a = p
+armed-or-not P request.ManualDisconnect d ls p a = p
+armed-or-not P request.ManualReconnect (Move t c o x) ls p a = a
+armed-or-not P request.ManualReconnect Stay ls p a = p
+armed-or-not P request.ManualReconnect NotListed ls p a = p
+armed-or-not P request.LocalDisconnect d ls p a = p
+armed-or-not P request.LocalReconnect d ls p a = p
 
 -- what an accepted call makes of the values
 abbrev pub effectResult : Values → Effect → Change
 effectResult s (sampled ps) = sampleResult s ps
-effectResult s (requested q) = moving s [] (decided s (requestOf q))
+effectResult s (requested q) = moving (armedValues s (requestOf q)) [] (decided s (requestOf q))
 effectResult s (modeSet n) = moving (withControl s (inMode (s .control) n)) [] (modeDecision n (s .control .state))
 effectResult s (limitsSet ts o u) = owing (withLimiters s (settingsEach (s .limiters) ts o u)) 3 (lineNow s 67 ∷ [])
 effectResult s (clockSet n) = clockResult s n

@@ -15,8 +15,8 @@ use Rattle.events.specs.Table.{EventRow, position, lawful}
 use Rattle.history.specs.Effects.{AnyFresh, RequestCall, remoteDisconnect, remoteReconnect, manualDisconnect, manualReconnect, WhichRegister, alarms}
 use Rattle.history.specs.Effects.{errors, Effect, sampled, requested, modeSet, limitsSet, clockSet, occurred, filterSet, bitsCleared, logCleared}
 use Rattle.history.specs.Last.{History, modeOf, clockOf}
-use Rattle.history.specs.Limiter.{firesOver, firesUnder, monitoredValues, observations}
-use Rattle.history.specs.Switch.{switchOf}
+use Rattle.history.specs.Limiter.{firesOver, firesUnder, monitoredValues}
+use Rattle.history.specs.Switch.{observations, switchOf}
 use Rattle.history.specs.Logs.{when, moves, requestCode, firingLines, clearCode, owedBy, clearsLog, owed, logOf}
 use Rattle.machine.proofs.Effects.{Proper, AllProper, none, more}
 

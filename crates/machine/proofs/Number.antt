@@ -13,12 +13,13 @@ use Rattle.control.specs.declared.Decision.{Decision}
 use Rattle.control.specs.declared.Decision.the-variants.{Move, Stay, NotListed}
 use Rattle.control.specs.Control.{modeDecision, inMode}
 use Rattle.limiter.specs.declared.Watched.{Watched}
+use Rattle.limiter.specs.Limiter.{armed}
 use Rattle.history.specs.Effects.{alarms, errors, AnyCall, Effect, sampled, requested, modeSet, limitsSet, clockSet, occurred, filterSet, bitsCleared}
 use Rattle.history.specs.Effects.{logCleared, Reading, refused, accepted, reading}
 use Rattle.machine.specs.Values.{Values, State, withControl, withLimiters, withClock}
-use Rattle.machine.specs.Machine.{moving, decided, sampledEach, firedLines, disconnectTried, reconnectTried, afterSample, sampleResult, requestOf}
-use Rattle.machine.specs.Machine.{result}
-use Rattle.machine.proofs.Effects.{effectResult, readResult}
+use Rattle.machine.specs.Machine.{moving, decided, armedValues, sampledEach, firedLines, disconnectTried, reconnectTried, afterSample}
+use Rattle.machine.specs.Machine.{sampleResult, requestOf, result}
+use Rattle.machine.proofs.Effects.{armed-or-not, effectResult, readResult}
 use Rattle.machine.specs.Laws.{afterResult}
 use Rattle.machine.proofs.Answers.{by-reading}
 
@@ -47,7 +48,9 @@ effect-number v (sampled ps) =
     ap length (sample-limiters (withLimiters (withClock v (held (v .clock + 1))) (map (λ w. w .limiter) ws)) ws)
     ∙ length-map ws (λ w. w .limiter)
     ∙ length-each 0 _ (v .limiters)
-effect-number v (requested q) = ap length (moving-limiters v [] (decided v (requestOf q)))
+effect-number v (requested q) =
+    ap length (moving-limiters (armedValues v (requestOf q)) [] (decided v (requestOf q)))
+    ∙ armed-or-not (λ ls. length ls ≡ length (v .limiters)) (requestOf q) (decided v (requestOf q)) (v .limiters) refl (length-map (v .limiters) armed)
 effect-number v (modeSet n) = ap length (moving-limiters (withControl v (inMode (v .control) n)) [] (modeDecision n (v .control .state)))
 effect-number v (limitsSet ts o u) = length-each 0 _ (v .limiters)
 effect-number v (clockSet n) = refl

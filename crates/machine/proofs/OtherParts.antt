@@ -13,7 +13,8 @@ use Rattle.control.specs.Control.{modeDecision, inMode}
 use Rattle.limiter.specs.declared.Watched.{Watched}
 use Rattle.history.specs.Effects.{alarms, errors, Effect, sampled, requested, modeSet, limitsSet, clockSet, occurred, filterSet, bitsCleared, logCleared}
 use Rattle.machine.specs.Values.{Values, withControl, withLimiters, withClock}
-use Rattle.machine.specs.Machine.{moving, decided, requestOf, firedLines, disconnectTried, reconnectTried, sampledEach, afterSample, sampleResult}
+use Rattle.machine.specs.Machine.{moving, decided, armedValues, requestOf, firedLines, disconnectTried, reconnectTried, sampledEach}
+use Rattle.machine.specs.Machine.{afterSample, sampleResult}
 use Rattle.machine.proofs.Effects.{effectResult}
 
 -- the values after an accepted call, but for control and limiters
@@ -50,7 +51,7 @@ unfolding sampleResult
 values-after s (sampled ps) =
     let ws = sampledEach (s .limiters) ps in
     sample-apart (withLimiters (withClock s (held (s .clock + 1))) (map (λ w. w .limiter) ws)) ws
-values-after s (requested q) = moving-apart s [] (decided s (requestOf q))
+values-after s (requested q) = moving-apart (armedValues s (requestOf q)) [] (decided s (requestOf q))
 values-after s (modeSet n) = moving-apart (withControl s (inMode (s .control) n)) [] (modeDecision n (s .control .state))
 values-after s (limitsSet ts o u) = refl
 values-after s (clockSet n) = refl

@@ -24,8 +24,8 @@ use Rattle.control.specs.Control.{modeDecision, inMode, soundControl}
 use Rattle.control.proofs.Moves.{moveCodes, table-move, moved-sound, mode-moved-sound, mode-stays-sound}
 use Rattle.limiter.specs.declared.Limiter.{Limiter}
 use Rattle.limiter.specs.declared.Watched.{Watched}
-use Rattle.limiter.specs.Limiter.{isOver, isThreshold, isDuration, sampledPower, withSettings, soundLimiter}
-use Rattle.limiter.proofs.Watching.{laws as limiter-laws, settings-sound}
+use Rattle.limiter.specs.Limiter.{isOver, isThreshold, isDuration, sampledPower, withSettings, armed, soundLimiter}
+use Rattle.limiter.proofs.Watching.{laws as limiter-laws, settings-sound, armed-sound}
 use Rattle.logs.specs.Lists.{emptied, ownLines, soundLists}
 use Rattle.logs.proofs.Kept.{appended-sound, emptied-sound}
 use Rattle.calls.specs.declared.Answer.{Answer}
@@ -35,12 +35,13 @@ use Rattle.history.specs.Last.{numberAt}
 use Rattle.machine.specs.Values.{Values, State, withControl, withLimiters}
 use Rattle.machine.specs.Settings.{limitsAnswer}
 use Rattle.machine.specs.Sound.{soundValues, soundState}
-use Rattle.machine.specs.Machine.{Change, Result, refusing, making, owing, answeredWith, lineNow, moving, decided, requestOf, answering}
-use Rattle.machine.specs.Machine.{requestResult, sampledEach, firedLines, disconnectTried, reconnectTried, afterSample, sampleResult, modeResult}
-use Rattle.machine.specs.Machine.{settingsEach, limiterResult, occurring, eventResult, clearLogResult, scriptResult, result}
+use Rattle.machine.specs.Machine.{Change, Result, refusing, making, owing, answeredWith, lineNow, moving, decided, requestOf}
+use Rattle.machine.specs.Machine.{answering, armedValues, requestResult, sampledEach, firedLines, disconnectTried, reconnectTried, afterSample}
+use Rattle.machine.specs.Machine.{sampleResult, modeResult, settingsEach, limiterResult, occurring, eventResult, clearLogResult, scriptResult, result}
 use Rattle.machine.specs.Fresh.{freshLimiter, freshValues}
 use Rattle.machine.specs.Ranges.{AnySettings, AnyInRange}
 use Rattle.machine.proofs.Lists.{every-number}
+use Rattle.machine.proofs.Effects.{armed-or-not}
 use Rattle.machine.specs.Laws.{afterResult}
 use Rattle.machine.proofs.Answers.{either}
 
@@ -115,6 +116,15 @@ module _ (s : Values) (h : soundValues s ≡ true) where
   unfolding soundValues
   limiters-sound = and-right (soundControl (s .control)) (every soundLimiter (s .limiters)) h
 
+-- with the limiters that a request leaves
+armed-values : (s : Values) (q : Request) → soundValues s ≡ true → soundValues (armedValues s q) ≡ true
+unfolding soundValues
+armed-values s q h =
+    let sound = limiters-sound s h in
+    values-of (s .control) (armedValues s q .limiters) (control-sound s h)
+    (armed-or-not (λ ls. every soundLimiter ls ≡ true) q (decided s q) (s .limiters) sound
+    (every-map soundLimiter armed soundLimiter (s .limiters) armed-sound sound))
+
 -- the values that a call leaves are sound, and its lines may stand in their log
 pub record SoundChange (rows : List EventRow) (k : Change) : Type 0 where
   pub values : soundValues (k .values) ≡ true
@@ -144,9 +154,9 @@ module _ (rows : List EventRow) where
 
   request-sound : (s : Values) (q : Request) → soundValues s ≡ true → SoundResult rows (requestResult s q)
   unfolding requestResult every
-  request-sound s q h = go (decided s q) (moving-sound s [] q h refl)
+  request-sound s q h = go (decided s q) (moving-sound (armedValues s q) [] q (armed-values s q h) refl)
     where
-      go : (d : Decision) → SoundChange rows (moving s [] d) → SoundResult rows (answering s d)
+      go : (d : Decision) → SoundChange rows (moving (armedValues s q) [] d) → SoundResult rows (answering (armedValues s q) d)
       go (Move t c b l) k = k
       go Stay k = k
       go NotListed k = tt

@@ -14,8 +14,8 @@ use Rattle.events.specs.Table.{EventRow, lawful}
 use Rattle.calls.specs.Calls.{Word}
 use Rattle.history.specs.Effects.{AnyFresh, AnyCall, alarms, errors, Effect, Reading, refused, accepted, reading}
 use Rattle.history.specs.Last.{History, last, samplesSince, modeOf}
-use Rattle.history.specs.Limiter.{exceeded, trailing, sinceSetting, monitoredValues, observations}
-use Rattle.history.specs.Switch.{spell, switchOf}
+use Rattle.history.specs.Limiter.{exceeded, trailing, sinceSetting, monitoredValues}
+use Rattle.history.specs.Switch.{spell, observations, switchOf}
 use Rattle.history.specs.Registers.{stands}
 use Rattle.history.specs.Logs.{owed}
 use Rattle.history.specs.Letters.{letterRead, letterAfter}

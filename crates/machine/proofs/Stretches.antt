@@ -13,14 +13,17 @@ use borrow.Author.Tests.{leb-true, lt-leb}
 use Rattle.base.proofs.Bools.{and-left}
 use Rattle.limiter.specs.declared.Limiter.{Limiter}
 use Rattle.limiter.specs.declared.Watched.{Watched}
-use Rattle.limiter.specs.Limiter.{watching, watched, sampledPower, withSettings}
-use Rattle.history.specs.Effects.{AnyFresh, sampled, requested, modeSet, limitsSet, clockSet, occurred, filterSet, bitsCleared, logCleared}
+use Rattle.limiter.specs.Limiter.{watching, watched, sampledPower, withSettings, armed}
+use Rattle.history.specs.Effects.{AnyFresh, manualReconnect, sampled, requested, limitsSet}
 use Rattle.history.specs.Last.{History, Limits, last, limitsOf, thresholdOf, numberAt}
-use Rattle.history.specs.Limiter.{Observation, judged, durationOf, duration, sinceSetting, allAre, exceeded, trailing, monitoredValues, observations}
-use Rattle.history.specs.Limiter.{exceededOf}
+use Rattle.history.specs.Limiter.{Observation, judged, durationOf, duration, sinceSetting, allAre, exceeded, trailing, run, monitoredValues}
+use Rattle.history.specs.Switch.{observations, exceededOf}
+use Rattle.history.specs.Logs.{moves}
+use Rattle.history.proofs.Stretches.{durations-last}
+use Rattle.history.proofs.Armed.{moved-arms, unmoved-unseen}
 use Rattle.machine.specs.Machine.{sampledEach, settingsEach}
 use Rattle.machine.specs.Ranges.{AnySettings}
-use Rattle.machine.proofs.Lists.{each-numbered}
+use Rattle.machine.proofs.Lists.{map-ext, map-map, each-numbered}
 use Rattle.machine.proofs.Ranges.{DurationsInRange, durations-range}
 use Rattle.machine.proofs.Effects.{AllProper, heldLimiter, heldLimiters}
 
@@ -28,21 +31,6 @@ use Rattle.machine.proofs.Effects.{AllProper, heldLimiter, heldLimiters
 duration-positive : (l : Limits) → DurationsInRange l → (b : Bool) → 1 ≤ durationOf b (l .over) (l .under)
 duration-positive l p true = leb-true 1 (l .over) (and-left (leb 1 (l .over)) (leb (l .over) 86400) (p .0))
 duration-positive l p false = leb-true 1 (l .under) (and-left (leb 1 (l .under)) (leb (l .under) 86400) (p .1))
-
--- the durations that the observations tell are those of the limits in force
-observed-duration : (f : AnyFresh) (k : ℕ) (h : History) (b : Bool)
-    → duration b (observations f k h) ≡ durationOf b (limitsOf f h .over) (limitsOf f h .under)
-unfolding observations duration last
-observed-duration f k [] b = refl
-observed-duration f k (sampled ps ∷ h) b = observed-duration f k h b
-observed-duration f k (requested q ∷ h) b = observed-duration f k h b
-observed-duration f k (modeSet n ∷ h) b = observed-duration f k h b
-observed-duration f k (limitsSet ts o u ∷ h) b = refl
-observed-duration f k (clockSet n ∷ h) b = observed-duration f k h b
-observed-duration f k (occurred r ∷ h) b = observed-duration f k h b
-observed-duration f k (filterSet s n ∷ h) b = observed-duration f k h b
-observed-duration f k (bitsCleared s n ∷ h) b = observed-duration f k h b
-observed-duration f k (logCleared n ∷ h) b = observed-duration f k h b
 
 -- ---- a full stretch ends where the trailing samples of its kind are at least as many as its duration
 counted : (b : Bool) (n : ℕ) (cs : List Bool) → leb n (length cs) && allAre b (take n cs) ≡ leb n (trailing b cs)
@@ -103,9 +91,9 @@ value-watched f h ps s a k =
     let os = observations f k h in
     let b = ltZ t (numberAt ps k) in
     let cs = sinceSetting os in
-    let positive : (c : Bool) → 1 ≤ duration c os = λ c. rw (observed-duration f k h c) (duration-positive l (durations-range f s h a) c) in
+    let positive : (c : Bool) → 1 ≤ duration c os = λ c. rw (durations-last f k h c) (duration-positive l (durations-range f s h a) c) in
     let next : exceeded (judged b ∷ os) ≡ cond (leb (durationOf b (l .over) (l .under)) (suc (trailing b cs))) b (exceeded os) =
-    exceeded-next b os positive ∙ ap (λ (n : ℕ). cond (leb n (suc (trailing b cs))) b (exceeded os)) (observed-duration f k h b) in
+    exceeded-next b os positive ∙ ap (λ (n : ℕ). cond (leb n (suc (trailing b cs))) b (exceeded os)) (durations-last f k h b) in
     watched-by t (l .over) (l .under) cs (exceeded os) b (leb (durationOf b (l .over) (l .under)) (suc (trailing b cs))) refl
     ∙ ap (λ (e : Bool). watching (limiterBy t (l .over) (l .under) (b ∷ cs) e) (changes (exceeded os) e)) (sym next)
 
@@ -121,3 +109,20 @@ pub limiters-limited : (f : AnyFresh) (h : History) (ts : List ℤ) (o u : ℕ)
 unfolding last observations exceeded sinceSetting trailing
 limiters-limited f h ts o u =
     each-numbered 0 (length (f .thresholds)) (λ k l. withSettings l (numberAt ts k) o u) (heldLimiter f h) (heldLimiter f (limitsSet ts o u ∷ h)) (λ k. refl)
+
+-- ---- a manual reconnect: armed where it moves the switch, else as they were
+module _ (f : AnyFresh) (h : History) where
+  -- by what the limiter has seen of monitored value k
+  abbrev limiterSeen : List Observation → ℕ → Limiter
+  limiterSeen os k =
+      record { threshold = thresholdOf f k h; over = limitsOf f h .over; under = limitsOf f h .under; exceeded = exceeded os; run = run os }
+
+  pub limiters-armed : moves f (requested manualReconnect) h ≡ true → map armed (heldLimiters f h) ≡ heldLimiters f (requested manualReconnect ∷ h)
+  unfolding last exceeded sinceSetting trailing
+  limiters-armed m =
+      map-map armed (heldLimiter f h) (monitoredValues f)
+      ∙ map-ext _ _ (monitoredValues f) (λ k. ap (λ (os : List Observation). limiterSeen os k) (sym (moved-arms f k h m)))
+
+  pub limiters-unarmed : moves f (requested manualReconnect) h ≡ false → heldLimiters f h ≡ heldLimiters f (requested manualReconnect ∷ h)
+  unfolding last
+  limiters-unarmed m = map-ext _ _ (monitoredValues f) (λ k. ap (λ (os : List Observation). limiterSeen os k) (sym (unmoved-unseen f k h m)))

@@ -17,6 +17,7 @@ use Rattle.events.specs.Line.{Line, line}
 use Rattle.calls.specs.declared.Letter.{Letter}
 use Rattle.calls.specs.declared.Letter.the-variants.{A, D, E, F, None}
 use Rattle.control.specs.declared.Control.{Control}
+use Rattle.control.specs.declared.Request.{Request}
 use Rattle.control.specs.declared.Request.the-variants as request
 use Rattle.control.specs.declared.Decision.{Decision}
 use Rattle.control.specs.declared.Decision.the-variants.{Move, Stay, NotListed}
@@ -28,20 +29,20 @@ use Rattle.limiter.specs.declared.Watched.{Watched}
 use Rattle.history.specs.Effects.{AnyFresh, RequestCall, remoteDisconnect, remoteReconnect, manualDisconnect, manualReconnect, alarms, errors, Effect}
 use Rattle.history.specs.Effects.{sampled, requested, modeSet, limitsSet, clockSet, occurred, filterSet, bitsCleared, logCleared, listedModes}
 use Rattle.history.specs.Last.{History, otherwise, given, last, modeOf, clockOf}
-use Rattle.history.specs.Limiter.{firesOver, firesUnder, monitoredValues, observations, exceededOf}
-use Rattle.history.specs.Switch.{spell, decides, switchOf}
+use Rattle.history.specs.Limiter.{firesOver, firesUnder, monitoredValues}
+use Rattle.history.specs.Switch.{spell, observations, lastDecided, switchOf, exceededOf}
 use Rattle.history.specs.Logs.{when, moves, requestCode, localCode}
 use Rattle.history.specs.Account.{opens}
 use Rattle.history.specs.Letters.{requestLetter, localLetter, moveLetter, letterOf}
 use Rattle.history.proofs.Letters.{OneOrTwo, one, two, triedG, triedH, last-decided}
 use Rattle.machine.specs.Values.{Values, withControl, withLimiters, withClock}
-use Rattle.machine.specs.Machine.{Change, owing, lettered, lineNow, moving, decided, requestOf, firedLines, disconnectTried, reconnectTried}
+use Rattle.machine.specs.Machine.{Change, owing, lettered, lineNow, moving, decided, armedBy, requestOf, firedLines, disconnectTried, reconnectTried}
 use Rattle.machine.specs.Machine.{afterSample, sampleResult}
 use Rattle.machine.specs.Ranges.{AnySettings}
 use Rattle.machine.proofs.Lists.{map-map, any-map, any-ext, gathered-map, gathered-ext}
 use Rattle.machine.proofs.Ranges.{mode-range}
 use Rattle.machine.proofs.Effects.{effectResult, Proper, AllProper, heldControl, heldLimiters, heldValues, nextOpenings}
-use Rattle.machine.proofs.Stretches.{changes, watchedOf, sampled-watched, limiters-limited}
+use Rattle.machine.proofs.Stretches.{changes, watchedOf, sampled-watched, limiters-limited, limiters-armed, limiters-unarmed}
 
 -- every request lists modes 1 to 6 only, a manual disconnect 1, 2 and 5
 listed-mode : (q : RequestCall) (m : ℕ) → among (listedModes q) m ≡ true → within 1 6 m ≡ true
@@ -118,7 +119,7 @@ module _ (m : ℕ) (listed : within 1 6 m ≡ true) where
 -- a request
 pub request-switches : (f : AnyFresh) (h : History) (q : RequestCall) → Proper (modeOf f h) (requested q)
     → Switches f (requested q) h (requestCode q (switchOf f (requested q ∷ h))) (decision switchTable (requestOf q) (modeOf f h) (switchOf f h))
-unfolding switchOf spell last
+unfolding switchOf spell last lastDecided
 request-switches f h remoteDisconnect p =
     rw rows (remote-disconnect (modeOf f h) (listed-mode remoteDisconnect (modeOf f h) p) (spell h) (last-decided f h))
 request-switches f h remoteReconnect p =
@@ -140,7 +141,7 @@ mode-rows n false false e one = rw e
 mode-rows n false false e two = rw e
 
 pub mode-switches : (f : AnyFresh) (h : History) (n : ℕ) → Switches f (modeSet n) h 63 (modeDecision n (switchOf f h))
-unfolding switchOf spell last
+unfolding switchOf spell last lastDecided
 mode-switches f h n = mode-rows n (spell h) (eqb n 0) refl (last-decided f h)
 
 -- a sample: g tried (a), h tried (b), outside mode 0 (x), in mode 5 or 6 (y)
@@ -182,8 +183,8 @@ local-reconnect m false x false e k two = rw (e, unlisted)
 module _ (f : AnyFresh) (h : History) (ps : List ℤ) where
   -- where the switch is after the sample
   sampled-to : switchOf f (sampled ps ∷ h)
-      ≡ sampledTo (spell h) (last (decides f) 1 h) (triedG f h ps) (triedH f h ps) (not (eqb (modeOf f h) 0)) (among (5 ∷ 6 ∷ []) (modeOf f h))
-  unfolding switchOf spell last
+      ≡ sampledTo (spell h) (lastDecided f h) (triedG f h ps) (triedH f h ps) (not (eqb (modeOf f h) 0)) (among (5 ∷ 6 ∷ []) (modeOf f h))
+  unfolding switchOf spell last observations lastDecided
   sampled-to = refl
 
   pub over-switches : AnySettings f → AllProper f h → triedG f h ps ≡ true
@@ -206,7 +207,7 @@ module _ (f : AnyFresh) (h : History) (ps : List ℤ) where
   unfolding switchOf
   sample-switches e e′ =
       rw (sampled-to, e, e′)
-      (sample-stays (spell h) (not (eqb (modeOf f h) 0)) (among (5 ∷ 6 ∷ []) (modeOf f h)) (last (decides f) 1 h))
+      (sample-stays (spell h) (not (eqb (modeOf f h) 0)) (among (5 ∷ 6 ∷ []) (modeOf f h)) (lastDecided f h))
 
 -- ---- decisions carried out
 -- the control with its switch in a position, its openings counted as the account counts them
@@ -256,6 +257,34 @@ controlIn m s n = record { mode = m; state = s; openings = n }
 switched-control : (m from to n : ℕ) → switchedTo (controlIn m from (held n)) to ≡ controlIn m to (held (cond (opens from to) (suc n) n))
 switched-control m from to n = ap (controlIn m to) (held-next (opens from to) n)
 
+-- the limiters that a request leaves
+either-decision : (q : Request) (d : Decision) (ls : List Limiter) → armedBy q d ls ≡ armedBy q (orStay d) ls
+either-decision request.RemoteDisconnect d ls = refl
+either-decision request.RemoteReconnect d ls = refl
+either-decision request.ManualDisconnect d ls = refl
+either-decision request.ManualReconnect (Move t c o x) ls = refl
+either-decision request.ManualReconnect Stay ls = refl
+either-decision request.ManualReconnect NotListed ls = refl
+either-decision request.LocalDisconnect d ls = refl
+either-decision request.LocalReconnect d ls = refl
+
+request-limiters : (f : AnyFresh) (h : History) (q : RequestCall) → Proper (modeOf f h) (requested q)
+    → armedBy (requestOf q) (decision switchTable (requestOf q) (modeOf f h) (switchOf f h)) (heldLimiters f h) ≡ heldLimiters f (requested q ∷ h)
+unfolding last observations
+request-limiters f h remoteDisconnect p = refl
+request-limiters f h remoteReconnect p = refl
+request-limiters f h manualDisconnect p = refl
+request-limiters f h manualReconnect p =
+    either-decision request.ManualReconnect (decision switchTable request.ManualReconnect (modeOf f h) (switchOf f h)) (heldLimiters f h)
+    ∙ ap (λ (d : Decision). armedBy request.ManualReconnect d (heldLimiters f h)) (request-switches f h manualReconnect p)
+    ∙ go (eqb (switchOf f h) (switchOf f (requested manualReconnect ∷ h))) refl
+  where
+    go : (x : Bool) → eqb (switchOf f h) (switchOf f (requested manualReconnect ∷ h)) ≡ x
+        → armedBy request.ManualReconnect (cond x Stay (Move (switchOf f (requested manualReconnect ∷ h)) 61 (eqb (switchOf f h) 1) E)) (heldLimiters f h)
+        ≡ heldLimiters f (requested manualReconnect ∷ h)
+    go true e = limiters-unarmed f h (ap not e)
+    go false e = limiters-armed f h (ap not e)
+
 pub requested-result : (f : AnyFresh) (h : History) (q : RequestCall) (n : ℕ) → Proper (modeOf f h) (requested q)
     → effectResult (heldValues f h (held n)) (requested q)
     ≡ lettered (letterOf f (requested q) h) (owing
@@ -268,7 +297,8 @@ unfolding last observations
 requested-result f h q n p =
     let s = withLimiters (heldValues f h (held n)) (heldLimiters f (requested q ∷ h)) in
     let to = switchOf f (requested q ∷ h) in
-    moving-switched s [] (decided s (requestOf q)) to (requestCode q to) (requestLetter q (switchOf f h) to) (request-switches f h q p)
+    ap (λ (ls : List Limiter). moving (withLimiters s ls) [] (decided s (requestOf q))) (request-limiters f h q p)
+    ∙ moving-switched s [] (decided s (requestOf q)) to (requestCode q to) (requestLetter q (switchOf f h) to) (request-switches f h q p)
     ∙ ap (λ c. lettered (letterOf f (requested q) h) (owing (withControl s c) 3 (when (moves f (requested q) h) (lineNow s (requestCode q to) ∷ []))))
     (switched-control (modeOf f h) (switchOf f h) to n)
 
@@ -387,7 +417,7 @@ unmoved f h n = rw (and-not-self (eqb (switchOf f h) 1))
 
 pub control-kept : (f : AnyFresh) (h : History) (e : Effect) (n : ℕ) → AnySettings f → AllProper f h → Proper (modeOf f h) e
     → effectResult (heldValues f h (held n)) e .values .control ≡ heldControl f (e ∷ h) (held (nextOpenings f e h n))
-unfolding last spell switchOf
+unfolding last spell switchOf lastDecided
 control-kept f h (sampled ps) n s a k = ap (λ (r : Change). r .values .control) (sampled-result f h ps n s a)
 control-kept f h (requested q) n s a k = ap (λ (r : Change). r .values .control) (requested-result f h q n k)
 control-kept f h (modeSet m) n s a k = ap (λ (r : Change). r .values .control) (mode-result f h m n)
@@ -422,7 +452,7 @@ no-letter s = rw (eq-eqb s s refl)
 -- the letter of any accepted call
 pub letter-after : (f : AnyFresh) (h : History) (e : Effect) (n : ℕ) → AnySettings f → AllProper f h → Proper (modeOf f h) e
     → effectResult (heldValues f h (held n)) e .letter ≡ letterOf f e h
-unfolding last spell switchOf
+unfolding last spell switchOf lastDecided
 letter-after f h (sampled ps) n s a k = ap (λ (r : Change). r .letter) (sampled-result f h ps n s a)
 letter-after f h (requested q) n s a k = ap (λ (r : Change). r .letter) (requested-result f h q n k)
 letter-after f h (modeSet m) n s a k = ap (λ (r : Change). r .letter) (mode-result f h m n)

@@ -18,7 +18,7 @@ use Rattle.control.specs.Table.{switchTable}
 use Rattle.control.specs.Control.{decision, modeDecision, movedTo, inMode}
 use Rattle.limiter.specs.declared.Limiter.{Limiter}
 use Rattle.limiter.specs.declared.Watched.{Watched}
-use Rattle.limiter.specs.Limiter.{sampledPower, withSettings}
+use Rattle.limiter.specs.Limiter.{sampledPower, withSettings, armed}
 use Rattle.logs.specs.Lists.{appended, emptied}
 use Rattle.calls.specs.declared.Letter.{Letter}
 use Rattle.calls.specs.declared.Letter.the-variants.{None}
@@ -72,9 +72,25 @@ answering v (Move t c o x) = making (moving v [] (Move t c o x))
 answering v Stay = making (moving v [] Stay)
 answering v NotListed = refusing 2
 
+-- document 02, A5: '.. a manual reconnect that moves the switch also ends Exceeded and sets Run 0, without a line'; of more monitored values than one
+-- (document 02): 'A5's reconnect acts on all four lines ..'
+abbrev pub armedBy : Request → Decision → List Limiter → List Limiter
+armedBy request.RemoteDisconnect d ls = ls
+armedBy request.RemoteReconnect d ls = ls
+armedBy request.ManualDisconnect d ls = ls
+armedBy request.ManualReconnect (Move t c o x) ls = map armed ls
+armedBy request.ManualReconnect Stay ls = ls
+armedBy request.ManualReconnect NotListed ls = ls
+armedBy request.LocalDisconnect d ls = ls
+armedBy request.LocalReconnect d ls = ls
+
+-- the values with the limiters that a request leaves
+abbrev pub armedValues : Values → Request → Values
+armedValues v q = withLimiters v (armedBy q (decided v q) (v .limiters))
+
 -- a request
 unfoldable pub requestResult : Values → Request → Result
-requestResult v q = answering v (decided v q)
+requestResult v q = answering (armedValues v q) (decided v q)
 
 -- ---- call 1: what the limiter makes of each monitored value
 abbrev pub sampledEach : List Limiter → List ℤ → List Watched

@@ -77,10 +77,10 @@ pub record Examples : Type 0 where
       lineNumbersAt (3 ∷ 4 ∷ 8 ∷ 10 ∷ 12 ∷ 14 ∷ 15 ∷ [])
       ≡ lineNumbers 3 0 1 0 ∷ lineNumbers 4 0 2 1 ∷ lineNumbers 8 0 1 1 ∷ lineNumbers 10 0 0 2
       ∷ lineNumbers 12 0 2 2 ∷ lineNumbers 14 0 1 2 ∷ lineNumbers 15 2 1 2 ∷ []
-  -- 'Log 3 then: 65, 64, 61 at 1003; 66, 62, 59, 63 at 1006'
+  -- 'Log 3 then: 65, 64, 61 at 1003; .. 62, 59, 63 at 1006'; document 02, A5: 'The 66 drops out of 01's example log'
   pub log :
       logIn (recordAfter builtIn exampleMeter exampleCalls) 3
-      ≡ line 1003 65 ∷ line 1003 64 ∷ line 1003 61 ∷ line 1006 66 ∷ line 1006 62 ∷ line 1006 59 ∷ line 1006 63 ∷ []
+      ≡ line 1003 65 ∷ line 1003 64 ∷ line 1003 61 ∷ line 1006 62 ∷ line 1006 59 ∷ line 1006 63 ∷ []
   pub power : isOver (pos 0) (negsuc 2147483647) ≡ false
   pub taken : applied builtIn exampleMeter (SetLimiter (pos 3000) 86400 3) .answer ≡ Accepted
   pub refused : applied builtIn exampleMeter (SetLimiter (pos 3000) 86401 3) .answer ≡ Refused 5

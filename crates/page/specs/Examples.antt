@@ -89,7 +89,8 @@ unused =
 abbrev pub noLines : List ℕ
 noLines = replicate 161 0
 
--- the bytes of document 01's worked example: 'Log 3 then: 65, 64, 61 at 1003; 66, 62, 59, 63 at 1006'
+-- the bytes of document 01's worked example: 'Log 3 then: 65, 64, 61 at 1003; .. 62, 59, 63 at 1006'; document 02, A5: 'The 66 drops out of 01's
+-- example log'
 abbrev pub workedBytes : List ℕ
 workedBytes =
     -- '(32,6) (38,17) (55,4) (59,8) (67,8) (75,161) (236,161) (397,161)'
@@ -103,9 +104,9 @@ workedBytes =
     -- alarms and errors, and their filters
     ∷ 0 ∷ 0 ∷ 0 ∷ 0 ∷ 0 ∷ 0 ∷ 0 ∷ 0 ∷ 0 ∷ 0 ∷ 0 ∷ 0 ∷ 0 ∷ 0 ∷ 0 ∷ 0
     ∷ (noLines ++ (noLines ++ (
-    7 ∷ 0 ∷ 0 ∷ 3 ∷ 235 ∷ 65 ∷ 0 ∷ 0 ∷ 3 ∷ 235 ∷ 64 ∷ 0 ∷ 0 ∷ 3 ∷ 235 ∷ 61
-    ∷ 0 ∷ 0 ∷ 3 ∷ 238 ∷ 66 ∷ 0 ∷ 0 ∷ 3 ∷ 238 ∷ 62 ∷ 0 ∷ 0 ∷ 3 ∷ 238 ∷ 59 ∷ 0 ∷ 0 ∷ 3 ∷ 238 ∷ 63
-    ∷ replicate (25 * 5) 0)))
+    6 ∷ 0 ∷ 0 ∷ 3 ∷ 235 ∷ 65 ∷ 0 ∷ 0 ∷ 3 ∷ 235 ∷ 64 ∷ 0 ∷ 0 ∷ 3 ∷ 235 ∷ 61
+    ∷ 0 ∷ 0 ∷ 3 ∷ 238 ∷ 62 ∷ 0 ∷ 0 ∷ 3 ∷ 238 ∷ 59 ∷ 0 ∷ 0 ∷ 3 ∷ 238 ∷ 63
+    ∷ replicate (26 * 5) 0)))
 
 -- an account in which each field has a number of its own
 abbrev pub distinct : Account

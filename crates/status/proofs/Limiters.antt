@@ -1,4 +1,4 @@
--- Calls that touch no limiter.
+-- Calls that touch no limiter, and requests, whose manual reconnect may arm them.
 use mathlib.Core.Path.{_≡_, refl}
 use mathlib.Core.Bool.{Bool, true, false, cond}
 use mathlib.Core.List.{List, []}
@@ -7,14 +7,15 @@ use lib.Dec.{eqb, leb}
 use Rattle.events.specs.Line.{Line, isLog}
 use Rattle.events.specs.Table.{EventRow, lookup}
 use Rattle.control.specs.declared.Request.{Request}
-use Rattle.control.specs.declared.Request.the-variants.{RemoteDisconnect, RemoteReconnect}
+use Rattle.control.specs.declared.Request.the-variants.{RemoteDisconnect, RemoteReconnect, ManualDisconnect}
 use Rattle.control.specs.declared.Decision.{Decision}
 use Rattle.control.specs.declared.Decision.the-variants.{Move, Stay, NotListed}
 use Rattle.control.specs.Control.{inMode, modeDecision}
 use Rattle.limiter.specs.declared.Limiter.{Limiter}
-use Rattle.history.specs.Effects.{AnyCall, alarms, errors, sample, request, setMode, setLimiter, setClock, event, setFilter, clearBits, clearLog, script}
+use Rattle.history.specs.Effects.{AnyCall, remoteDisconnect, remoteReconnect, manualDisconnect, manualReconnect, alarms, errors, sample, request}
+use Rattle.history.specs.Effects.{setMode, setLimiter, setClock, event, setFilter, clearBits, clearLog, script}
 use Rattle.machine.specs.Values.{Values, withControl, withLimiters}
-use Rattle.machine.specs.Machine.{Result, refusing, moving, decided, answering, occurring, requestOf, result}
+use Rattle.machine.specs.Machine.{Result, refusing, moving, decided, answering, armedBy, occurring, result}
 use Rattle.machine.specs.Machine.{requestResult, modeResult, eventResult, clearLogResult, scriptResult}
 use Rattle.status.specs.Laws.{NoLimiter, changeWith, resultWith, Laws}
 
@@ -24,14 +25,14 @@ module _ (v : Values) (ls : List Limiter) where
   moving-left xs Stay = refl
   moving-left xs NotListed = refl
 
-  answering-left : (d : Decision) → answering (withLimiters v ls) d ≡ resultWith ls (answering v d)
-  answering-left (Move t c o x) = refl
-  answering-left Stay = refl
-  answering-left NotListed = refl
-
-  request-left : (q : Request) → requestResult (withLimiters v ls) q ≡ resultWith ls (requestResult v q)
+  request-armed : (q : Request) → requestResult (withLimiters v ls) q ≡ resultWith (armedBy q (decided v q) ls) (requestResult v q)
   unfolding requestResult
-  request-left q = answering-left (decided v q)
+  request-armed q = go (armedBy q (decided v q) ls) (armedBy q (decided v q) (v .limiters)) (decided v q)
+    where
+      go : (ls₁ ls₂ : List Limiter) (d : Decision) → answering (withLimiters v ls₁) d ≡ resultWith ls₁ (answering (withLimiters v ls₂) d)
+      go ls₁ ls₂ (Move t c o x) = refl
+      go ls₁ ls₂ Stay = refl
+      go ls₁ ls₂ NotListed = refl
 
   occurring-left : (o : Option EventRow) → occurring (withLimiters v ls) o ≡ resultWith ls (occurring v o)
   occurring-left none = refl
@@ -46,7 +47,10 @@ limiters-left : (rows : List EventRow) (v : Values) (ls : List Limiter) (c : Any
     → result rows (withLimiters v ls) c ≡ resultWith ls (result rows v c)
 unfolding modeResult eventResult clearLogResult scriptResult
 limiters-left rows v ls (sample ps) h = absurd h
-limiters-left rows v ls (request q) h = request-left v ls (requestOf q)
+limiters-left rows v ls (request remoteDisconnect) h = request-armed v ls RemoteDisconnect
+limiters-left rows v ls (request remoteReconnect) h = request-armed v ls RemoteReconnect
+limiters-left rows v ls (request manualDisconnect) h = request-armed v ls ManualDisconnect
+limiters-left rows v ls (request manualReconnect) h = absurd h
 limiters-left rows v ls (setMode n) h =
     rw (moving-left (withControl v (inMode (v .control) n)) ls [] (modeDecision n (v .control .state))) (choice-left ls (leb n 6) _ (refusing 1))
 limiters-left rows v ls (setLimiter ts o u) h = absurd h
@@ -58,8 +62,8 @@ limiters-left rows v ls (clearBits alarms n) h = refl
 limiters-left rows v ls (clearBits errors n) h = refl
 limiters-left rows v ls (clearLog n) h = choice-left ls (isLog n) _ (refusing 7)
 limiters-left rows v ls (script n) h =
-    rw (request-left v ls RemoteDisconnect, request-left v ls RemoteReconnect, choice-left ls (eqb n 2) (requestResult v RemoteReconnect) (refusing 3))
+    rw (request-armed v ls RemoteDisconnect, request-armed v ls RemoteReconnect, choice-left ls (eqb n 2) (requestResult v RemoteReconnect) (refusing 3))
     (choice-left ls (eqb n 1) (requestResult v RemoteDisconnect) _)
 
 pub laws : Laws
-laws = record { limiters-left = limiters-left }
+laws = record { limiters-left = limiters-left; limiters-armed = request-armed }

@@ -1,16 +1,21 @@
--- Why the contracts here, on the values of a meter that monitors nothing, are those of any meter: a call that touches no limiter.
+-- Why the contracts here, on the values of a meter that monitors nothing, are those of any meter: a call that touches no limiter, and a manual reconnect.
 use mathlib.Core.Path.{_≡_}
 use mathlib.Core.List.{List}
 use Rattle.events.specs.Table.{EventRow}
+use Rattle.control.specs.declared.Request.{Request}
 use Rattle.limiter.specs.declared.Limiter.{Limiter}
-use Rattle.history.specs.Effects.{AnyCall, sample, request, setMode, setLimiter, setClock, event, setFilter, clearBits, clearLog, script}
+use Rattle.history.specs.Effects.{remoteDisconnect, remoteReconnect, manualDisconnect, manualReconnect, AnyCall, sample, request, setMode, setLimiter}
+use Rattle.history.specs.Effects.{setClock, event, setFilter, clearBits, clearLog, script}
 use Rattle.machine.specs.Values.{Values, withLimiters}
-use Rattle.machine.specs.Machine.{Change, Result, refusing, making, result}
+use Rattle.machine.specs.Machine.{Change, Result, refusing, making, decided, armedBy, requestResult, result}
 
--- all calls but the samples and the limiter settings
+-- all calls but the samples, the limiter settings and the manual reconnects
 abbrev pub NoLimiter : AnyCall → Type 0
 NoLimiter (sample ps) = ⊥
-NoLimiter (request q) = Unit
+NoLimiter (request remoteDisconnect) = Unit
+NoLimiter (request remoteReconnect) = Unit
+NoLimiter (request manualDisconnect) = Unit
+NoLimiter (request manualReconnect) = ⊥
 NoLimiter (setMode n) = Unit
 NoLimiter (setLimiter ts o u) = ⊥
 NoLimiter (setClock n) = Unit
@@ -34,3 +39,6 @@ pub record Laws : Type 0 where
   -- whatever the limiters are, the call leaves them, and all else is as without them
   pub limiters-left : (rows : List EventRow) (v : Values) (ls : List Limiter) (c : AnyCall) → NoLimiter c
       → result rows (withLimiters v ls) c ≡ resultWith ls (result rows v c)
+  -- document 02, A5: a request leaves them too, unless it is a manual reconnect that moves the switch: that arms them again; all else is as without them
+  pub limiters-armed : (v : Values) (ls : List Limiter) (q : Request)
+      → requestResult (withLimiters v ls) q ≡ resultWith (armedBy q (decided v q) ls) (requestResult v q)

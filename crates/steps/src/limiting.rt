@@ -1,8 +1,10 @@
-// The calls that touch the limiter: its settings, and the samples that make it act.
+// The calls that touch the limiter: its settings, the samples that make it act, and the manual
+// reconnect that arms it again.
 ghost use mathlib.Core.Path.{_≡_};
 ghost use mathlib.Core.List.{[], _∷_};
 ghost use Rattle.machine.specs.Settings.{limitsAnswer};
-ghost use Rattle.machine.specs.Machine.{lineNow, moving, decided, sampleResult, limiterResult};
+ghost use Rattle.control.specs.declared.Request.the-variants.{ManualReconnect};
+ghost use Rattle.machine.specs.Machine.{lineNow, moving, decided, requestResult, sampleResult, limiterResult};
 ghost use Rattle.steps.specs.Scalars.{valuesOf};
 ghost use Rattle.steps.specs.Step.{stepFor, stepOf};
 use crate::Scalars;
@@ -36,6 +38,19 @@ impl Scalars {
         }
         self.limiter = self.limiter.set(threshold, over, under);
         self.with(self.status().logged(3, 67, Letter::None))
+    }
+
+    // A holder who reconnects with the load still on is cut again: a move by the key arms the limiter.
+    pub(crate) fn manual_reconnect(mut self) -> Step
+        ensures { λ r. ⌜ r ≡ stepOf self (requestResult (valuesOf self) ManualReconnect) ⌝ }
+    {
+        let step = self.status().request(Request::ManualReconnect);
+        let letter = step.letter;
+        let Letter::E = letter else {
+            return self.with(step);
+        };
+        self.limiter = self.limiter.arm();
+        self.with(step)
     }
 
     // The limiter's firing: its own line, then the request that it makes. A mode that is not listed
