@@ -39,11 +39,12 @@ extern "C" {
 #endif
 
 /*
- * The version of this interface: major, if a program that uses it has to
- * change; minor, if something is added; else patch. A page bears no version:
- * one that is laid out otherwise is refused by its length or its pairs.
+ * The version of this interface: major, if a program that uses it or a page
+ * that it has kept has to change; minor, if something is added; else patch. A
+ * page bears no version: one that is laid out otherwise is refused by its
+ * length or its pairs.
  */
-#define PILLAR_VERSION_MAJOR 2
+#define PILLAR_VERSION_MAJOR 3
 #define PILLAR_VERSION_MINOR 0
 #define PILLAR_VERSION_PATCH 0
 #define PILLAR_VERSION \
@@ -52,13 +53,14 @@ extern "C" {
 /* ---- The page ------------------------------------------------------------
  *
  * A directory, one pair of offset and length for each area, then the areas;
- * all numbers are big-endian. Only the numbers down to PILLAR_LENGTH_LINE_CODE
+ * all numbers are big-endian. Only the numbers down to PILLAR_LENGTH_GROUP_ID
  * are given: every area's length, every offset and the page's size follow.
  */
-#define PILLAR_AREAS 8
+#define PILLAR_AREAS 9
 #define PILLAR_PAIR_SIZE 4 /* offset 2, length 2 */
 #define PILLAR_LOGS 3
 #define PILLAR_LINES_PER_LOG 32
+#define PILLAR_GROUPS 8 /* the most that can be set */
 
 /* Control: how the switch stands. */
 #define PILLAR_LENGTH_CONTROL_MODE 1
@@ -86,6 +88,16 @@ extern "C" {
 #define PILLAR_LENGTH_LINE_CLOCK 4
 #define PILLAR_LENGTH_LINE_CODE 1
 
+/* Emergency profile, zero where there is none, and groups; ids past their count are zero. */
+#define PILLAR_LENGTH_EMERGENCY_PROFILE_ID 2
+#define PILLAR_LENGTH_EMERGENCY_THRESHOLD 4
+#define PILLAR_LENGTH_EMERGENCY_ACTIVATION_TIME 4
+#define PILLAR_LENGTH_EMERGENCY_DURATION 4
+#define PILLAR_LENGTH_EMERGENCY_SAMPLES_LEFT 4
+#define PILLAR_LENGTH_EMERGENCY_STATE 1
+#define PILLAR_LENGTH_GROUP_COUNT 1
+#define PILLAR_LENGTH_GROUP_ID 2
+
 #define PILLAR_DIRECTORY_SIZE (PILLAR_AREAS * PILLAR_PAIR_SIZE)
 #define PILLAR_LINE_SIZE (PILLAR_LENGTH_LINE_CLOCK + PILLAR_LENGTH_LINE_CODE)
 
@@ -97,6 +109,11 @@ extern "C" {
 #define PILLAR_LENGTH_ALARMS (PILLAR_LENGTH_ALARM_REGISTER + PILLAR_LENGTH_ALARM_FILTER)
 #define PILLAR_LENGTH_ERRORS (PILLAR_LENGTH_ERROR_REGISTER + PILLAR_LENGTH_ERROR_FILTER)
 #define PILLAR_LENGTH_LOG (PILLAR_LENGTH_LOG_COUNT + PILLAR_LINES_PER_LOG * PILLAR_LINE_SIZE)
+#define PILLAR_LENGTH_EMERGENCY \
+    (PILLAR_LENGTH_EMERGENCY_PROFILE_ID + PILLAR_LENGTH_EMERGENCY_THRESHOLD \
+     + PILLAR_LENGTH_EMERGENCY_ACTIVATION_TIME + PILLAR_LENGTH_EMERGENCY_DURATION \
+     + PILLAR_LENGTH_EMERGENCY_SAMPLES_LEFT + PILLAR_LENGTH_EMERGENCY_STATE \
+     + PILLAR_LENGTH_GROUP_COUNT + PILLAR_GROUPS * PILLAR_LENGTH_GROUP_ID)
 
 #define PILLAR_OFFSET_CONTROL PILLAR_DIRECTORY_SIZE
 #define PILLAR_OFFSET_CONTROL_MODE PILLAR_OFFSET_CONTROL
@@ -129,8 +146,25 @@ extern "C" {
 #define PILLAR_OFFSET_LINE_CODE(log, line) \
     (PILLAR_OFFSET_LINE_CLOCK(log, line) + PILLAR_LENGTH_LINE_CLOCK)
 
+/* `place` counts from 0. */
+#define PILLAR_OFFSET_EMERGENCY (PILLAR_OFFSET_LOGS + PILLAR_LOGS * PILLAR_LENGTH_LOG)
+#define PILLAR_OFFSET_EMERGENCY_PROFILE_ID PILLAR_OFFSET_EMERGENCY
+#define PILLAR_OFFSET_EMERGENCY_THRESHOLD \
+    (PILLAR_OFFSET_EMERGENCY_PROFILE_ID + PILLAR_LENGTH_EMERGENCY_PROFILE_ID)
+#define PILLAR_OFFSET_EMERGENCY_ACTIVATION_TIME \
+    (PILLAR_OFFSET_EMERGENCY_THRESHOLD + PILLAR_LENGTH_EMERGENCY_THRESHOLD)
+#define PILLAR_OFFSET_EMERGENCY_DURATION \
+    (PILLAR_OFFSET_EMERGENCY_ACTIVATION_TIME + PILLAR_LENGTH_EMERGENCY_ACTIVATION_TIME)
+#define PILLAR_OFFSET_EMERGENCY_SAMPLES_LEFT \
+    (PILLAR_OFFSET_EMERGENCY_DURATION + PILLAR_LENGTH_EMERGENCY_DURATION)
+#define PILLAR_OFFSET_EMERGENCY_STATE \
+    (PILLAR_OFFSET_EMERGENCY_SAMPLES_LEFT + PILLAR_LENGTH_EMERGENCY_SAMPLES_LEFT)
+#define PILLAR_OFFSET_GROUP_COUNT (PILLAR_OFFSET_EMERGENCY_STATE + PILLAR_LENGTH_EMERGENCY_STATE)
+#define PILLAR_OFFSET_GROUP_ID(place) \
+    (PILLAR_OFFSET_GROUP_COUNT + PILLAR_LENGTH_GROUP_COUNT + (place) * PILLAR_LENGTH_GROUP_ID)
+
 /* Bytes of a page, and of a record in the list that pillar_replay takes. */
-#define PILLAR_PAGE_SIZE (PILLAR_OFFSET_LOGS + PILLAR_LOGS * PILLAR_LENGTH_LOG)
+#define PILLAR_PAGE_SIZE (PILLAR_OFFSET_EMERGENCY + PILLAR_LENGTH_EMERGENCY)
 #define PILLAR_RECORD_SIZE 21
 
 /* ---- Numbers by name ----------------------------------------------------- */
@@ -150,7 +184,10 @@ enum pillar_answer {
     PILLAR_REFUSED_PAGE_PAIRS = 10,    /* reader: a pair of the directory differs */
     PILLAR_REFUSED_PAGE_UNSOUND = 11,  /* reader: what the page holds would not be sound */
     PILLAR_REFUSED_METER_UNSOUND = 12, /* never from C: the reader stops it with 11 */
-    PILLAR_REFUSED_KIND = 13,          /* call: not 1 to 15 */
+    PILLAR_REFUSED_KIND = 13,          /* call: not 1 to 17 */
+    PILLAR_REFUSED_GROUP_COUNT = 14,   /* set groups: above 8 */
+    PILLAR_REFUSED_GROUP_ID = 15,      /* set profile: the id is not one of the groups' */
+    PILLAR_REFUSED_PROFILE = 16,       /* set profile: threshold negative, or duration not 1 to 604800 */
     PILLAR_REFUSED_LIST_EMPTY = 100,   /* replay: no byte */
     PILLAR_REFUSED_LIST_BAD = 101,     /* replay: the first record is not of kind 0 */
     PILLAR_REFUSED_LIST_SHORT = 102    /* replay: a record is cut short */
@@ -173,7 +210,9 @@ enum pillar_kind {
     PILLAR_KIND_CLEAR_ALARMS = 12,     /* mask */
     PILLAR_KIND_CLEAR_ERRORS = 13,     /* mask */
     PILLAR_KIND_CLEAR_LOG = 14,        /* log */
-    PILLAR_KIND_EXECUTE_SCRIPT = 15    /* script */
+    PILLAR_KIND_EXECUTE_SCRIPT = 15,   /* script */
+    PILLAR_KIND_SET_GROUPS = 16,       /* count; ids, two to a number, the first in its high half */
+    PILLAR_KIND_SET_PROFILE = 17       /* id, threshold (as power), activation time, duration */
 };
 
 /* Control state (003, 6.9.2). Supply flows only in PILLAR_CONTROL_STATE_CONNECTED. */
@@ -212,6 +251,13 @@ enum pillar_letter {
     PILLAR_LETTER_F = 102,  /* 'f' manual disconnect, 1, 2 and 5: connected to ready */
     PILLAR_LETTER_G = 103,  /* 'g' local disconnect, 1 to 6: connected to ready */
     PILLAR_LETTER_H = 104   /* 'h' local reconnect, 5 and 6: ready to connected */
+};
+
+/* Whether there is an emergency profile. Only the threshold of an active one is in force. */
+enum pillar_emergency_state {
+    PILLAR_EMERGENCY_STATE_NONE = 0,
+    PILLAR_EMERGENCY_STATE_WAITING = 1,
+    PILLAR_EMERGENCY_STATE_ACTIVE = 2
 };
 
 enum pillar_script {
@@ -301,7 +347,7 @@ uint32_t pillar_fresh(uint8_t *page, size_t length, uint32_t control_mode,
                       uint32_t under_duration, uint32_t clock);
 
 /*
- * One of the fifteen calls on the meter of a page, which is then the page of
+ * One of the seventeen calls on the meter of a page, which is then the page of
  * the meter after it. `kind` is one of enum pillar_kind; 0 and any other is
  * PILLAR_REFUSED_KIND, whatever the page holds. Then it answers
  * PILLAR_REFUSED_PAGE_LENGTH, .._PAGE_PAIRS, .._PAGE_UNSOUND, then the refusals
@@ -333,7 +379,7 @@ uint32_t pillar_replay(const uint8_t *records, size_t records_length,
  */
 uint32_t pillar_check(const uint8_t *page, size_t length);
 
-/* ---- The fifteen calls by name -------------------------------------------
+/* ---- The seventeen calls by name -----------------------------------------
  *
  * Each is pillar_call with its kind, and answers as it does. Numbers go over
  * whole: a control mode of 256 is refused, and never taken for 0. Those that can
@@ -376,7 +422,10 @@ static inline uint32_t pillar_set_control_mode(uint8_t *page, size_t length, uin
     return pillar_call(page, length, PILLAR_KIND_SET_CONTROL_MODE, control_mode, 0, 0, 0, 0, &none);
 }
 
-/* The threshold in watts, 0 or more; both durations in samples, 1 to 86400. */
+/*
+ * The threshold in watts, 0 or more; both durations in samples, 1 to 86400. The
+ * threshold of an active emergency profile stays in force.
+ */
 static inline uint32_t pillar_set_limiter(uint8_t *page, size_t length, int32_t threshold,
                                           uint32_t over_duration, uint32_t under_duration)
 {
@@ -437,6 +486,39 @@ static inline uint32_t pillar_execute_script(uint8_t *page, size_t length, uint3
     return pillar_call(page, length, PILLAR_KIND_EXECUTE_SCRIPT, script, 0, 0, 0, 0, letter);
 }
 
+/*
+ * The ids of the groups, at most PILLAR_GROUPS: `ids` has `count` of them. They
+ * replace those set before. An emergency profile stays, whether it waits or is
+ * active. A count above PILLAR_GROUPS is PILLAR_REFUSED_GROUP_COUNT, and no more
+ * than PILLAR_GROUPS ids are read.
+ */
+static inline uint32_t pillar_set_groups(uint8_t *page, size_t length, const uint16_t *ids,
+                                         uint32_t count)
+{
+    uint8_t none;
+    uint32_t n[PILLAR_GROUPS / 2] = {0};
+    for (uint32_t i = 0; i < count && i < PILLAR_GROUPS; i++)
+        n[i / 2] |= (uint32_t)ids[i] << (i % 2 == 0 ? 16 : 0);
+    return pillar_call(page, length, PILLAR_KIND_SET_GROUPS, count, n[0], n[1], n[2], n[3], &none);
+}
+
+/*
+ * An emergency profile, which replaces any earlier one and waits. The first
+ * sample whose clock has reached the activation time makes it active: from that
+ * one on, its threshold in watts, 0 or more, is in force for as many samples as
+ * the duration says, 1 to 604800. Over an active one the normal threshold is in
+ * force again at once. The id is one of the groups', else it is
+ * PILLAR_REFUSED_GROUP_ID; then PILLAR_REFUSED_PROFILE.
+ */
+static inline uint32_t pillar_set_profile(uint8_t *page, size_t length, uint32_t id,
+                                          int32_t threshold, uint32_t activation_time,
+                                          uint32_t duration)
+{
+    uint8_t none;
+    return pillar_call(page, length, PILLAR_KIND_SET_PROFILE, id, (uint32_t)threshold,
+                       activation_time, duration, 0, &none);
+}
+
 /* ---- Reading off a page --------------------------------------------------
  *
  * Each takes PILLAR_PAGE_SIZE bytes and does not test them: pillar_check does,
@@ -448,6 +530,12 @@ static inline uint32_t pillar_get_number(const uint8_t *page, size_t offset)
 {
     return (uint32_t)page[offset] << 24 | (uint32_t)page[offset + 1] << 16
            | (uint32_t)page[offset + 2] << 8 | (uint32_t)page[offset + 3];
+}
+
+/* A big-endian id of 16 bits. */
+static inline uint16_t pillar_get_id(const uint8_t *page, size_t offset)
+{
+    return (uint16_t)(page[offset] << 8 | page[offset + 1]);
 }
 
 /* One of enum pillar_control_mode. */
@@ -473,7 +561,7 @@ static inline uint32_t pillar_get_openings(const uint8_t *page)
     return pillar_get_number(page, PILLAR_OFFSET_OPENINGS);
 }
 
-/* The limiter's threshold, in watts. */
+/* The limiter's normal threshold, in watts. */
 static inline int32_t pillar_get_threshold(const uint8_t *page)
 {
     return (int32_t)pillar_get_number(page, PILLAR_OFFSET_THRESHOLD);
@@ -554,6 +642,63 @@ static inline struct pillar_line pillar_get_log_line(const uint8_t *page, uint32
         found.code = page[PILLAR_OFFSET_LINE_CODE(log, line)];
     }
     return found;
+}
+
+/* One of enum pillar_emergency_state. */
+static inline uint8_t pillar_get_emergency_state(const uint8_t *page)
+{
+    return page[PILLAR_OFFSET_EMERGENCY_STATE];
+}
+
+static inline uint16_t pillar_get_emergency_profile_id(const uint8_t *page)
+{
+    return pillar_get_id(page, PILLAR_OFFSET_EMERGENCY_PROFILE_ID);
+}
+
+/* In watts. */
+static inline int32_t pillar_get_emergency_threshold(const uint8_t *page)
+{
+    return (int32_t)pillar_get_number(page, PILLAR_OFFSET_EMERGENCY_THRESHOLD);
+}
+
+/* In seconds, as the clock. */
+static inline uint32_t pillar_get_emergency_activation_time(const uint8_t *page)
+{
+    return pillar_get_number(page, PILLAR_OFFSET_EMERGENCY_ACTIVATION_TIME);
+}
+
+/* In samples. */
+static inline uint32_t pillar_get_emergency_duration(const uint8_t *page)
+{
+    return pillar_get_number(page, PILLAR_OFFSET_EMERGENCY_DURATION);
+}
+
+/* The samples that the profile has yet to govern. */
+static inline uint32_t pillar_get_emergency_samples_left(const uint8_t *page)
+{
+    return pillar_get_number(page, PILLAR_OFFSET_EMERGENCY_SAMPLES_LEFT);
+}
+
+/* In watts: the threshold of an active emergency profile, else the normal one. */
+static inline int32_t pillar_get_threshold_in_force(const uint8_t *page)
+{
+    if (pillar_get_emergency_state(page) == PILLAR_EMERGENCY_STATE_ACTIVE)
+        return pillar_get_emergency_threshold(page);
+    return pillar_get_threshold(page);
+}
+
+/* The groups that are set. */
+static inline uint8_t pillar_get_group_count(const uint8_t *page)
+{
+    return page[PILLAR_OFFSET_GROUP_COUNT];
+}
+
+/* The id of a group, counted from 0; 0 past the count. */
+static inline uint16_t pillar_get_group_id(const uint8_t *page, uint32_t place)
+{
+    if (place >= PILLAR_GROUPS)
+        return 0;
+    return pillar_get_id(page, PILLAR_OFFSET_GROUP_ID(place));
 }
 
 #ifdef __cplusplus

@@ -83,6 +83,7 @@ static const struct area areas[] = {
     LOG_AREA(PILLAR_LOG_STANDARD),
     LOG_AREA(PILLAR_LOG_FRAUD),
     LOG_AREA(PILLAR_LOG_DISCONNECT),
+    AREA(EMERGENCY),
 };
 
 /* The directory of a page that the core has written; the areas fill the page behind it. */
@@ -574,6 +575,11 @@ static void without_letter(void)
         SAME(PILLAR_LETTER_NONE, letter);
         stands(__LINE__, one ? PILLAR_CONTROL_STATE_DISCONNECTED : PILLAR_CONTROL_STATE_CONNECTED);
     }
+    for (at = PILLAR_KIND_SET_GROUPS; at <= PILLAR_KIND_SET_PROFILE; at++) {
+        letter = UNSTORED;
+        ACCEPTED(pillar_call(PAGE, at, 1, 0x10000, 1, 1, 0, &letter));
+        SAME(PILLAR_LETTER_NONE, letter);
+    }
 }
 
 /* A call that is refused, whatever for, leaves none where a letter stood. */
@@ -594,7 +600,7 @@ static void refused_letters(void)
     LETTER_REFUSED(MODE_RULE, pillar_manual_disconnect(PAGE, &letter));
     LETTER_REFUSED(SCRIPT, pillar_execute_script(PAGE, 3, &letter));
     LETTER_REFUSED(CONTROL_MODE, pillar_call(PAGE, PILLAR_KIND_SET_CONTROL_MODE, 7, 0, 0, 0, 0, &letter));
-    LETTER_REFUSED(KIND, pillar_call(PAGE, PILLAR_KIND_EXECUTE_SCRIPT + 1, 0, 0, 0, 0, 0, &letter));
+    LETTER_REFUSED(KIND, pillar_call(PAGE, PILLAR_KIND_SET_PROFILE + 1, 0, 0, 0, 0, 0, &letter));
     LETTER_REFUSED(PAGE_LENGTH, pillar_remote_reconnect(page, PILLAR_PAGE_SIZE - 1, &letter));
     page[0] ^= 1;
     LETTER_REFUSED(PAGE_PAIRS, pillar_remote_reconnect(PAGE, &letter));
@@ -603,13 +609,108 @@ static void refused_letters(void)
     LETTER_REFUSED(PAGE_UNSOUND, pillar_remote_reconnect(PAGE, &letter));
 }
 
+/* ---- The emergency profile and the groups -------------------------------- */
+
+/* Ids that differ in each half; a list may hold one twice. */
+static const uint16_t ids[] = {0xa1b2, 0xc3d4, 0xe5f6, 0x0708, 0x191a, 0xffff, 0, 0x0708, 0x2b2c};
+
+/* So many of them, in their order, and nothing past them. */
+static void groups_hold(uint32_t count)
+{
+    FIELD(GROUP_COUNT, count, pillar_get_group_count(page));
+    for (uint32_t i = 0; i < PILLAR_GROUPS + 2; i++) {
+        uint32_t owed = i < count ? ids[i] : 0;
+        SAME(pillar_get_group_id(page, i), owed);
+        if (i < PILLAR_GROUPS)
+            field(__LINE__, "GROUP_ID", PILLAR_OFFSET_GROUP_ID(i), PILLAR_LENGTH_GROUP_ID, owed, pillar_get_group_id(page, i));
+    }
+}
+
+static void groups(void)
+{
+    fresh(0);
+    groups_hold(0);
+    for (at = 0; at <= PILLAR_GROUPS; at++) {
+        ACCEPTED(pillar_set_groups(PAGE, ids, at));
+        groups_hold(at);
+    }
+    for (at = 0; at <= PILLAR_GROUPS; at++) {
+        ACCEPTED(pillar_set_groups(PAGE, ids, PILLAR_GROUPS - at));
+        groups_hold(PILLAR_GROUPS - at);
+    }
+    SAME(PILLAR_REFUSED_GROUP_COUNT, pillar_set_groups(PAGE, ids, PILLAR_GROUPS + 1));
+    SAME(PILLAR_REFUSED_GROUP_COUNT, pillar_set_groups(PAGE, ids, 256));
+    groups_hold(0);
+}
+
+struct profile {
+    uint32_t id;
+    uint32_t threshold;
+    uint32_t activation_time;
+    uint32_t duration;
+};
+
+/* The profile in this state, with so many samples left. */
+static void profile_holds(int line, uint32_t state, struct profile profile, uint32_t left)
+{
+    same(line, "emergency state", pillar_get_emergency_state(page), state);
+    FIELD(EMERGENCY_STATE, state, pillar_get_emergency_state(page));
+    FIELD(EMERGENCY_PROFILE_ID, profile.id, pillar_get_emergency_profile_id(page));
+    FIELD(EMERGENCY_THRESHOLD, profile.threshold, (uint32_t)pillar_get_emergency_threshold(page));
+    FIELD(EMERGENCY_ACTIVATION_TIME, profile.activation_time, pillar_get_emergency_activation_time(page));
+    FIELD(EMERGENCY_DURATION, profile.duration, pillar_get_emergency_duration(page));
+    FIELD(EMERGENCY_SAMPLES_LEFT, left, pillar_get_emergency_samples_left(page));
+    SAME((uint32_t)pillar_get_threshold_in_force(page),
+         state == PILLAR_EMERGENCY_STATE_ACTIVE ? profile.threshold : (uint32_t)pillar_get_threshold(page));
+}
+
+#define PROFILE_HOLDS(name, profile, left) profile_holds(__LINE__, PILLAR_EMERGENCY_STATE_##name, profile, left)
+
+/* A profile waits, governs its samples, and is gone; normal threshold and groups stay as they were. */
+static void emergency(void)
+{
+    const struct profile none = {0, 0, 0, 0};
+    const struct profile some = {0xa1b2, 0x01020304, 0x11121314, 0x010203};
+    const struct profile other = {0x0708, 0x7fffffff, 0xfffffffe, 604800};
+    ACCEPTED(pillar_fresh(PAGE, PILLAR_CONTROL_MODE_1, 0x05060708, 1, 1, 0x11121312));
+    PROFILE_HOLDS(NONE, none, 0);
+    SAME(PILLAR_REFUSED_GROUP_ID, pillar_set_profile(PAGE, 0, 0, 0, 1));
+    ACCEPTED(pillar_set_groups(PAGE, ids, 4));
+    SAME(PILLAR_REFUSED_GROUP_ID, pillar_set_profile(PAGE, 0x2b2c, 0, 0, 1));
+    SAME(PILLAR_REFUSED_GROUP_ID, pillar_set_profile(PAGE, 0x10000 + some.id, 0, 0, 1));
+    SAME(PILLAR_REFUSED_PROFILE, pillar_set_profile(PAGE, some.id, 0, 0, 0));
+    SAME(PILLAR_REFUSED_PROFILE, pillar_set_profile(PAGE, some.id, 0, 0, 604801));
+    SAME(PILLAR_REFUSED_PROFILE, pillar_set_profile(PAGE, some.id, -1, 0, 1));
+    PROFILE_HOLDS(NONE, none, 0);
+
+    ACCEPTED(pillar_set_profile(PAGE, other.id, INT32_MAX, other.activation_time, other.duration));
+    PROFILE_HOLDS(WAITING, other, other.duration);
+    ACCEPTED(pillar_set_profile(PAGE, some.id, (int32_t)some.threshold, some.activation_time, some.duration));
+    PROFILE_HOLDS(WAITING, some, some.duration);
+    ACCEPTED(pillar_sample(PAGE, 0, &letter));
+    PROFILE_HOLDS(WAITING, some, some.duration);
+    SAME(pillar_get_log_count(page, PILLAR_LOG_DISCONNECT), 0);
+    for (at = 1; at < some.duration; at++) {
+        ACCEPTED(pillar_sample(PAGE, 0, &letter));
+        if (at == 1 || at == 2 || at > some.duration - 3)
+            PROFILE_HOLDS(ACTIVE, some, some.duration - at);
+    }
+    SAME(PILLAR_LOGGED_LIMITER_THRESHOLD_CHANGED, latest(PILLAR_LOG_DISCONNECT));
+    SAME(pillar_get_log_count(page, PILLAR_LOG_DISCONNECT), 1);
+    ACCEPTED(pillar_sample(PAGE, 0, &letter));
+    PROFILE_HOLDS(NONE, none, 0);
+    SAME(pillar_get_log_count(page, PILLAR_LOG_DISCONNECT), 2);
+    FIELD(THRESHOLD, 0x05060708, (uint32_t)pillar_get_threshold(page));
+    groups_hold(4);
+}
+
 /* ---- Kinds and refusals -------------------------------------------------- */
 
 static void kinds(void)
 {
     static uint8_t record[PILLAR_RECORD_SIZE];
     for (at = 0; at < 300; at++) {
-        bool known = at >= PILLAR_KIND_SAMPLE && at <= PILLAR_KIND_EXECUTE_SCRIPT;
+        bool known = at >= PILLAR_KIND_SAMPLE && at <= PILLAR_KIND_SET_PROFILE;
         letter = UNSTORED;
         SAME(known ? PILLAR_REFUSED_PAGE_LENGTH : PILLAR_REFUSED_KIND, pillar_call(page, 0, at, 0, 0, 0, 0, 0, &letter));
         SAME(PILLAR_LETTER_NONE, letter);
@@ -660,6 +761,8 @@ int main(void)
     requests();
     without_letter();
     refused_letters();
+    groups();
+    emergency();
     kinds();
     refusals();
     if (differences != 0)

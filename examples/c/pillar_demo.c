@@ -1,6 +1,7 @@
 /*
  * Document 01's worked example through the C interface, call by call and as
- * one list, the letters of its moves, what the page then holds, and wrong input.
+ * one list, the letters of its moves, what the page then holds, an emergency
+ * profile, and wrong input.
  *
  *   rt staticlib pillar
  *   gcc -std=c99 -Wall -Wextra -pedantic -Iinclude -o target/pillar_demo examples/c/pillar_demo.c target/staticlib/libpillar.a
@@ -116,6 +117,29 @@ static int held(const uint8_t *page)
     return right;
 }
 
+/*
+ * Whether an emergency profile (document 02, A3) governs two samples: both are
+ * over its threshold and not over the normal one, and the second opens.
+ */
+static int governed(void)
+{
+    static const uint16_t groups[] = {7, 9};
+    static const uint8_t opened[] = {PILLAR_LETTER_NONE, PILLAR_LETTER_G, PILLAR_LETTER_NONE};
+    static const int32_t in_force[] = {THRESHOLD / 2, THRESHOLD, THRESHOLD};
+    uint8_t page[PILLAR_PAGE_SIZE] = {0};
+    uint8_t letter;
+    int right = pillar_fresh(page, sizeof page, PILLAR_CONTROL_MODE_5, THRESHOLD, OVER_DURATION, UNDER_DURATION, CLOCK) == PILLAR_ACCEPTED;
+    right &= pillar_set_groups(page, sizeof page, groups, 2) == PILLAR_ACCEPTED;
+    right &= pillar_set_profile(page, sizeof page, groups[1], THRESHOLD / 2, CLOCK + 1, 2) == PILLAR_ACCEPTED;
+    right &= pillar_get_emergency_state(page) == PILLAR_EMERGENCY_STATE_WAITING;
+    for (int i = 0; i < 3; i++) {
+        right &= pillar_sample(page, sizeof page, THRESHOLD, &letter) == PILLAR_ACCEPTED;
+        printf("emergency profile: threshold in force %" PRId32 ", samples left %" PRIu32 "\n", pillar_get_threshold_in_force(page), pillar_get_emergency_samples_left(page));
+        right &= letter == opened[i] && pillar_get_threshold_in_force(page) == in_force[i];
+    }
+    return right && pillar_get_emergency_state(page) == PILLAR_EMERGENCY_STATE_NONE;
+}
+
 /* Whether a refusal came with this number and left the page as it was. */
 static int refused(const char *what, uint32_t answer, uint32_t expected, const uint8_t *page, const uint8_t *before)
 {
@@ -138,15 +162,17 @@ int main(void)
     int right = lettered(letters);
     right &= replayed(page);
     right &= held(page);
+    right &= governed();
 
     uint8_t before[PILLAR_PAGE_SIZE];
     uint8_t letter;
     const uint8_t not_fresh[PILLAR_RECORD_SIZE] = {PILLAR_KIND_REMOTE_DISCONNECT};
-    const uint32_t unknown = PILLAR_KIND_EXECUTE_SCRIPT + 1;
+    const uint32_t unknown = PILLAR_KIND_SET_PROFILE + 1;
     memcpy(before, page, sizeof page);
     right &= refused("fresh into a short buffer", pillar_fresh(page, sizeof page - 1, PILLAR_CONTROL_MODE_5, THRESHOLD, OVER_DURATION, UNDER_DURATION, CLOCK), PILLAR_REFUSED_BUFFER, page, before);
     right &= refused("a negative threshold", pillar_set_limiter(page, sizeof page, -1, OVER_DURATION, UNDER_DURATION), PILLAR_REFUSED_THRESHOLD, page, before);
     right &= refused("an event that is not listed", pillar_report_event(page, sizeof page, PILLAR_LOGGED_REMOTE_DISCONNECTION), PILLAR_REFUSED_EVENT_CODE, page, before);
+    right &= refused("a profile of no group", pillar_set_profile(page, sizeof page, 9, THRESHOLD, CLOCK, 1), PILLAR_REFUSED_GROUP_ID, page, before);
     right &= refused("call on a short page", pillar_remote_disconnect(page, sizeof page - 1, &letter), PILLAR_REFUSED_PAGE_LENGTH, page, before);
     right &= refused("call of an unknown kind", pillar_call(page, sizeof page, unknown, 0, 0, 0, 0, 0, &letter), PILLAR_REFUSED_KIND, page, before);
     right &= refused("call of an unknown kind on a short page", pillar_call(page, sizeof page - 1, unknown, 0, 0, 0, 0, 0, &letter), PILLAR_REFUSED_KIND, page, before);

@@ -42,6 +42,8 @@ impl fmt::Display for Call {
             13 => "clear errors",
             14 => "clear log",
             15 => "script",
+            16 => "set emergency groups",
+            17 => "set emergency profile",
             _ => "unknown",
         };
         write!(f, "kind {} ({name}), numbers {:?}", self.kind, self.numbers)

@@ -1,7 +1,7 @@
 //! What the requests of document 02 are about: calls that meet a certain meter.
 
 use crate::call::Call;
-use crate::field::{self, CONNECTED, EXCEEDED, MODE, READY, SWITCH};
+use crate::field::{self, ACTIVE, CONNECTED, EXCEEDED, MODE, READY, STATE, SWITCH, WAITING};
 use pillar::PAGE;
 
 /// A call, and a meter that it meets.
@@ -20,10 +20,34 @@ pub enum Case {
     KeyAtRest,
     /// "A holder who reconnects with the kettle still on" is cut again (02, A5).
     CutAgain,
+    /// "at the start before the sample is judged" (02, A3), with another
+    /// threshold and with the same.
+    Starts,
+    StartsAlike,
+    /// A profile of one sample.
+    StartsAndEnds,
+    /// "at the end after the last governed one" (02, A3).
+    Ends,
+    EndsAlike,
+    /// "or at a kind 17 that replaces an active profile" (02, A3).
+    ReplacesActive,
+    ReplacesAlike,
+    ReplacesWaiting,
+    /// "Call 7 sets the normal threshold" (02, A3), under an active profile.
+    LimiterUnderProfile,
+    /// "setting the clock back or new groups don't end it" (02, A3).
+    ClockBackUnderProfile,
+    GroupsUnderProfile,
+    /// Setting the clock to a waiting profile's activation, which starts nothing.
+    ClockAtActivation,
+    /// "15, id not in the group" (02, A3), though its 16 bits are.
+    WideId,
+    /// "16, ..., after 15" (02, A3).
+    RefusedTwice,
 }
 
 impl Case {
-    pub const ALL: [Case; 7] = [
+    pub const ALL: [Case; 21] = [
         Case::ClosesByCall,
         Case::ClosesByScript,
         Case::StaysReady,
@@ -31,15 +55,35 @@ impl Case {
         Case::EndsRun,
         Case::KeyAtRest,
         Case::CutAgain,
+        Case::Starts,
+        Case::StartsAlike,
+        Case::StartsAndEnds,
+        Case::Ends,
+        Case::EndsAlike,
+        Case::ReplacesActive,
+        Case::ReplacesAlike,
+        Case::ReplacesWaiting,
+        Case::LimiterUnderProfile,
+        Case::ClockBackUnderProfile,
+        Case::GroupsUnderProfile,
+        Case::ClockAtActivation,
+        Case::WideId,
+        Case::RefusedTwice,
     ];
 
     /// The case of this call on the meter of this page, if it is one.
     pub fn of(call: Call, page: &[u8; PAGE]) -> Option<Case> {
+        let active = page[STATE] == ACTIVE;
         match (call.kind, call.numbers[0]) {
-            (1, power) => cuts_again(power as i32, page).then_some(Case::CutAgain),
+            (1, power) if cuts_again(power as i32, page) => Some(Case::CutAgain),
+            (1, _) => of_sample(page),
             (3, _) => of_remote_reconnect(page, Case::ClosesByCall),
             (5, _) => of_manual_reconnect(page),
+            (7, _) if active => Some(Case::LimiterUnderProfile),
+            (8, clock) => of_clock(clock, page),
             (15, 2) => of_remote_reconnect(page, Case::ClosesByScript),
+            (16, _) if active => Some(Case::GroupsUnderProfile),
+            (17, _) => of_profile(call.numbers, page),
             _ => None,
         }
     }
@@ -53,6 +97,20 @@ impl Case {
             Case::EndsRun => "manual reconnect from Ready with a Run, not Exceeded",
             Case::KeyAtRest => "manual reconnect that moves nothing, Exceeded or with a Run",
             Case::CutAgain => "cut again after a manual reconnect, no under firing between",
+            Case::Starts => "profile starts, another threshold",
+            Case::StartsAlike => "profile starts, the same threshold",
+            Case::StartsAndEnds => "profile of one sample",
+            Case::Ends => "profile ends, another threshold",
+            Case::EndsAlike => "profile ends, the same threshold",
+            Case::ReplacesActive => "profile in place of an active one, another threshold",
+            Case::ReplacesAlike => "profile in place of an active one, the same threshold",
+            Case::ReplacesWaiting => "profile in place of a waiting one",
+            Case::LimiterUnderProfile => "limiter setting under an active profile",
+            Case::ClockBackUnderProfile => "clock set back under an active profile",
+            Case::GroupsUnderProfile => "groups under an active profile",
+            Case::ClockAtActivation => "clock set to activation or later, profile waiting",
+            Case::WideId => "id above 16 bits, its low half in the group",
+            Case::RefusedTwice => "id not in the group and the profile out of range",
         }
     }
 }
@@ -94,6 +152,56 @@ fn cuts_again(power: i32, page: &[u8; PAGE]) -> bool {
     }
     let mut marks = field::newest_codes(page, 2).filter(|code| matches!(code, 61 | 65 | 66));
     marks.next() == Some(61) && marks.next() == Some(65)
+}
+
+/// The first sample of a waiting profile, or the last of an active one.
+fn of_sample(page: &[u8; PAGE]) -> Option<Case> {
+    let clock = field::get(page, field::CLOCK).saturating_add(1);
+    let last = field::get(page, field::LEFT) == 1;
+    let (other, alike) = match page[STATE] {
+        WAITING if clock < field::get(page, field::ACTIVATION) => return None,
+        WAITING if last => return Some(Case::StartsAndEnds),
+        WAITING => (Case::Starts, Case::StartsAlike),
+        ACTIVE if last => (Case::Ends, Case::EndsAlike),
+        _ => return None,
+    };
+    Some(if thresholds_differ(page) {
+        other
+    } else {
+        alike
+    })
+}
+
+fn of_clock(clock: u32, page: &[u8; PAGE]) -> Option<Case> {
+    match page[STATE] {
+        ACTIVE if clock < field::get(page, field::CLOCK) => Some(Case::ClockBackUnderProfile),
+        WAITING if clock >= field::get(page, field::ACTIVATION) => Some(Case::ClockAtActivation),
+        _ => None,
+    }
+}
+
+fn of_profile(numbers: [u32; 5], page: &[u8; PAGE]) -> Option<Case> {
+    let [id, threshold, _, duration, _] = numbers;
+    let in_group = |id| field::ids(page).contains(&id);
+    let in_range = threshold as i32 >= 0 && (1..=604_800).contains(&duration);
+    if u16::try_from(id).is_ok_and(in_group) {
+        return match page[STATE] {
+            _ if !in_range => None,
+            WAITING => Some(Case::ReplacesWaiting),
+            ACTIVE if thresholds_differ(page) => Some(Case::ReplacesActive),
+            ACTIVE => Some(Case::ReplacesAlike),
+            _ => None,
+        };
+    }
+    if !in_range {
+        return Some(Case::RefusedTwice);
+    }
+    in_group(id as u16).then_some(Case::WideId)
+}
+
+fn thresholds_differ(page: &[u8; PAGE]) -> bool {
+    let emergency = field::get(page, field::PROFILE_THRESHOLD);
+    emergency != field::get(page, field::THRESHOLD)
 }
 
 #[cfg(test)]
@@ -167,5 +275,74 @@ mod tests {
         assert_eq!(cut(&[65, 64, 66, 61], 11, 1), None);
         assert_eq!(cut(&[60, 61], 11, 1), None);
         assert_eq!(cut(&[65, 64, 63], 11, 1), None);
+    }
+
+    /// A page of clock 100 and threshold 10 with the group 7 and a profile of
+    /// this state, threshold and samples left, activation 102.
+    fn profiled(state: u8, threshold: u32, left: u32) -> [u8; PAGE] {
+        let mut page = page(5, CONNECTED);
+        field::put(&mut page, field::CLOCK, 100);
+        field::put(&mut page, field::THRESHOLD, 10);
+        field::put(&mut page, field::OVER, 9);
+        field::put(&mut page, field::PROFILE_THRESHOLD, threshold);
+        field::put(&mut page, field::ACTIVATION, 102);
+        field::put(&mut page, field::LEFT, left);
+        page[STATE] = state;
+        page[field::COUNT] = 1;
+        page[field::IDS + 1] = 7;
+        page
+    }
+
+    #[test]
+    fn samples_are_told_by_the_profile() {
+        let mut page = profiled(WAITING, 5, 2);
+        assert_eq!(met(1, 0, &page), None);
+        field::put(&mut page, field::CLOCK, 101);
+        assert_eq!(met(1, 0, &page), Some(Case::Starts));
+        field::put(&mut page, field::LEFT, 1);
+        assert_eq!(met(1, 0, &page), Some(Case::StartsAndEnds));
+        let mut page = profiled(WAITING, 10, 2);
+        field::put(&mut page, field::CLOCK, 101);
+        assert_eq!(met(1, 0, &page), Some(Case::StartsAlike));
+        assert_eq!(met(1, 0, &profiled(ACTIVE, 5, 2)), None);
+        assert_eq!(met(1, 0, &profiled(ACTIVE, 5, 1)), Some(Case::Ends));
+        assert_eq!(met(1, 0, &profiled(ACTIVE, 10, 1)), Some(Case::EndsAlike));
+        assert_eq!(met(1, 0, &profiled(0, 0, 0)), None);
+    }
+
+    #[test]
+    fn settings_are_told_by_the_profile() {
+        for state in [0, WAITING, ACTIVE] {
+            let page = profiled(state, 5, 2);
+            let active = |case| (state == ACTIVE).then_some(case);
+            let waiting = |case| (state == WAITING).then_some(case);
+            assert_eq!(met(7, 10, &page), active(Case::LimiterUnderProfile));
+            assert_eq!(met(16, 1, &page), active(Case::GroupsUnderProfile));
+            assert_eq!(met(8, 99, &page), active(Case::ClockBackUnderProfile));
+            assert_eq!(met(8, 101, &page), None);
+            assert_eq!(met(8, 102, &page), waiting(Case::ClockAtActivation));
+        }
+    }
+
+    #[test]
+    fn profiles_are_told_by_the_one_before_and_the_groups() {
+        let set = |page: &[u8; PAGE], id, threshold, duration| {
+            let numbers = [id, threshold, 0, duration, 0];
+            Case::of(Call { kind: 17, numbers }, page)
+        };
+        let none = profiled(0, 0, 0);
+        assert_eq!(set(&none, 7, 5, 2), None);
+        assert_eq!(set(&none, 8, 5, 2), None);
+        assert_eq!(set(&none, 7, 5, 0), None);
+        assert_eq!(set(&none, 0x1_0007, 5, 2), Some(Case::WideId));
+        assert_eq!(set(&none, 8, 5, 604_801), Some(Case::RefusedTwice));
+        assert_eq!(set(&none, 8, u32::MAX, 2), Some(Case::RefusedTwice));
+        let waiting = profiled(WAITING, 5, 2);
+        assert_eq!(set(&waiting, 7, 10, 2), Some(Case::ReplacesWaiting));
+        let active = profiled(ACTIVE, 5, 2);
+        assert_eq!(set(&active, 7, 10, 2), Some(Case::ReplacesActive));
+        assert_eq!(set(&active, 7, u32::MAX, 2), None);
+        let alike = profiled(ACTIVE, 10, 2);
+        assert_eq!(set(&alike, 7, 5, 2), Some(Case::ReplacesAlike));
     }
 }

@@ -9,7 +9,7 @@ pub const CALLS_FOR_EVERY_ANSWER: u64 = 100_000;
 /// What calls, fresh and the reader must have answered. 12 cannot be asked of
 /// the proved core: its state is a page, and an unsound page is refused by the
 /// reader (11).
-const ANSWERS: [u32; 13] = [0, 1, 2, 3, 4, 5, 6, 7, 8, 9, 10, 11, 13];
+const ANSWERS: [u32; 16] = [0, 1, 2, 3, 4, 5, 6, 7, 8, 9, 10, 11, 13, 14, 15, 16];
 
 /// What replay must have answered: lists accepted, refused as fresh and the
 /// writer refuse, and refused as no list.
@@ -108,7 +108,7 @@ mod tests {
             ..Counts::default()
         };
         (0..=11).for_each(|answer| counts.count_answer(answer));
-        counts.count_answer(13);
+        (13..=16).for_each(|answer| counts.count_answer(answer));
         for answer in [0, 1, 5, 8, 100, 101, 102] {
             counts.count_replay_answer(answer);
         }

@@ -1,6 +1,9 @@
 //! Damaged pages: what a worn memory or a wrong writer would hand over.
 
-use crate::field::{self, EXCEEDED, LINES, LOGS, MODE, OVER, RUN, SWITCH, THRESHOLD, UNDER};
+use crate::field::{
+    self, COUNT, DURATION, EXCEEDED, GROUPS, IDS, LEFT, LINES, LOGS, MODE, OVER, PROFILE_ID,
+    PROFILE_THRESHOLD, RUN, STATE, SWITCH, THRESHOLD, UNDER,
+};
 use crate::random::Random;
 use pillar::PAGE;
 
@@ -20,7 +23,7 @@ pub fn damaged(random: &mut Random, page: &[u8; PAGE]) -> Vec<u8> {
 
 /// Changes bytes of a whole page.
 fn damage(random: &mut Random, page: &mut [u8]) {
-    match random.below(11) {
+    match random.below(14) {
         0 => page[random.below(PAGE)] = random.byte(),
         1 => page[random.below(PAGE)] ^= 1 << random.below(8),
         2 => page[random.below(MODE)] ^= 1 << random.below(8),
@@ -31,18 +34,21 @@ fn damage(random: &mut Random, page: &mut [u8]) {
         7 => damage_past_count(random, page),
         8 => page[MODE] = random.pick(&[0, 1, 6, 7, 128, 255]),
         9 => page[SWITCH] = random.pick(&[0, 1, 2, 3, 255]),
+        10 => damage_profile(random, page),
+        11 => damage_groups(random, page),
+        12 => page[PROFILE_ID + random.below(PAGE - PROFILE_ID)] = random.byte(),
         _ => damage_limiter(random, page),
     }
 }
 
 fn resize(random: &mut Random, bytes: &mut Vec<u8>) {
     let any = random.below(2 * PAGE + 2);
-    let length = random.pick(&[PAGE - 1, PAGE + 1, 0, 1, 32, 2 * PAGE, any]);
+    let length = random.pick(&[PAGE - 1, PAGE + 1, 0, 1, MODE, 2 * PAGE, any]);
     bytes.resize(length, 0);
 }
 
 fn swap_pairs(random: &mut Random, page: &mut [u8]) {
-    let (first, second) = (random.below(8), random.below(8));
+    let (first, second) = (random.below(9), random.below(9));
     for byte in 0..4 {
         page.swap(4 * first + byte, 4 * second + byte);
     }
@@ -85,4 +91,35 @@ fn damage_limiter(random: &mut Random, page: &mut [u8]) {
             field::put(page, RUN, random.pick(&runs));
         }
     }
+}
+
+/// The state, or a number that belongs to it.
+fn damage_profile(random: &mut Random, page: &mut [u8]) {
+    let duration = field::get(page, DURATION);
+    let left = field::get(page, LEFT);
+    match random.below(5) {
+        0 => page[STATE] = random.pick(&[0, 1, 2, 3, 128, 255]),
+        1 => page[PROFILE_THRESHOLD] ^= 0x80,
+        2 => field::put(page, DURATION, random.pick(&[0, 1, left, 604_800, 604_801])),
+        3 => {
+            let lefts = [0, 1, duration, duration.wrapping_add(1)];
+            field::put(page, LEFT, random.pick(&lefts));
+        }
+        _ => {
+            let place = PROFILE_ID + random.below(STATE - PROFILE_ID);
+            page[place] ^= 1 << random.below(8);
+        }
+    }
+}
+
+/// The count, or an id at its edge.
+fn damage_groups(random: &mut Random, page: &mut [u8]) {
+    let count = page[COUNT];
+    if random.one_in(2) {
+        let near = [count.wrapping_add(1), count.wrapping_sub(1)];
+        page[COUNT] = random.pick(&[near[0], near[1], 0, 8, 9, 255]);
+        return;
+    }
+    let place = usize::from(count).min(GROUPS - 1);
+    page[IDS + 2 * place + random.below(2)] = 1 << random.below(8);
 }

@@ -153,10 +153,10 @@ mod tests {
         let none = judged(None, &[7; 40]).unwrap_err();
         assert!(none.contains("letters: plain b, pillar none"), "{none}");
         let mut bytes = [7; 40];
-        bytes[33] = 1;
+        bytes[37] = 1;
         let byte = judged(Some('b'), &bytes).unwrap_err();
         assert!(
-            byte.ends_with("byte 33 (switch): plain 0x07, pillar 0x01"),
+            byte.ends_with("byte 37 (switch): plain 0x07, pillar 0x01"),
             "{byte}"
         );
     }

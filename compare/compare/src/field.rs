@@ -1,24 +1,37 @@
 //! Where the fields lie in the page, for patches and for reports.
 
-pub const MODE: usize = 32;
-pub const SWITCH: usize = 33;
-pub const OPENINGS: usize = 34;
-pub const THRESHOLD: usize = 38;
-pub const OVER: usize = 42;
-pub const UNDER: usize = 46;
-pub const EXCEEDED: usize = 50;
-pub const RUN: usize = 51;
-pub const CLOCK: usize = 55;
-pub const ALARMS: usize = 59;
-pub const ERRORS: usize = 67;
-pub const LOGS: [usize; 3] = [75, 236, 397];
+pub const MODE: usize = 36;
+pub const SWITCH: usize = 37;
+pub const OPENINGS: usize = 38;
+pub const THRESHOLD: usize = 42;
+pub const OVER: usize = 46;
+pub const UNDER: usize = 50;
+pub const EXCEEDED: usize = 54;
+pub const RUN: usize = 55;
+pub const CLOCK: usize = 59;
+pub const ALARMS: usize = 63;
+pub const ERRORS: usize = 71;
+pub const LOGS: [usize; 3] = [79, 240, 401];
 pub const LINES: usize = 32;
+pub const PROFILE_ID: usize = 562;
+pub const PROFILE_THRESHOLD: usize = 564;
+pub const ACTIVATION: usize = 568;
+pub const DURATION: usize = 572;
+pub const LEFT: usize = 576;
+pub const STATE: usize = 580;
+pub const COUNT: usize = 581;
+pub const IDS: usize = 582;
+pub const GROUPS: usize = 8;
 
 /// The switch at Connected and at Ready for reconnection.
 pub const CONNECTED: u8 = 1;
 pub const READY: u8 = 2;
 
-const FIELDS: [(usize, &str); 14] = [
+/// The states of an emergency profile.
+pub const WAITING: u8 = 1;
+pub const ACTIVE: u8 = 2;
+
+const FIELDS: [(usize, &str); 22] = [
     (0, "pairs"),
     (MODE, "mode"),
     (SWITCH, "switch"),
@@ -30,9 +43,17 @@ const FIELDS: [(usize, &str); 14] = [
     (RUN, "Run"),
     (CLOCK, "clock"),
     (ALARMS, "alarms"),
-    (63, "alarm filter"),
+    (67, "alarm filter"),
     (ERRORS, "errors"),
-    (71, "error filter"),
+    (75, "error filter"),
+    (PROFILE_ID, "profile id"),
+    (PROFILE_THRESHOLD, "emergency threshold"),
+    (ACTIVATION, "activation"),
+    (DURATION, "emergency duration"),
+    (LEFT, "samples left"),
+    (STATE, "profile state"),
+    (COUNT, "group count"),
+    (IDS, "group ids"),
 ];
 
 /// The clock of a line, its code four bytes on.
@@ -52,7 +73,8 @@ pub fn name(byte: usize) -> String {
     if byte >= pillar::PAGE {
         return String::from("past the page");
     }
-    if let Some(log) = LOGS.iter().rposition(|&start| byte >= start) {
+    let log = LOGS.iter().rposition(|&start| byte >= start);
+    if let Some(log) = log.filter(|_| byte < PROFILE_ID) {
         return name_in_log(log, byte - LOGS[log]);
     }
     let field = FIELDS.iter().rfind(|field| byte >= field.0);
@@ -67,6 +89,14 @@ fn name_in_log(log: usize, byte: usize) -> String {
     let line = (byte - 1) / 5 + 1;
     let part = if (byte - 1) % 5 < 4 { "clock" } else { "code" };
     format!("log {log}, line {line}, {part}")
+}
+
+/// The group ids that the page holds.
+pub fn ids(page: &[u8]) -> Vec<u16> {
+    let count = usize::from(page[COUNT]).min(GROUPS);
+    let (ids, _) = page[IDS..].as_chunks::<2>();
+    let held = ids.iter().take(count);
+    held.map(|id| u16::from_be_bytes(*id)).collect()
 }
 
 pub fn get(page: &[u8], field: usize) -> u32 {
@@ -85,17 +115,23 @@ mod tests {
     #[test]
     fn bytes_have_their_names() {
         assert_eq!(name(0), "pairs");
-        assert_eq!(name(31), "pairs");
-        assert_eq!(name(32), "mode");
-        assert_eq!(name(37), "openings");
-        assert_eq!(name(50), "Exceeded");
-        assert_eq!(name(54), "Run");
-        assert_eq!(name(74), "error filter");
-        assert_eq!(name(75), "log 1, count");
-        assert_eq!(name(76), "log 1, line 1, clock");
-        assert_eq!(name(240), "log 2, line 1, clock");
-        assert_eq!(name(241), "log 2, line 1, code");
-        assert_eq!(name(557), "log 3, line 32, code");
-        assert_eq!(name(558), "past the page");
+        assert_eq!(name(35), "pairs");
+        assert_eq!(name(36), "mode");
+        assert_eq!(name(41), "openings");
+        assert_eq!(name(54), "Exceeded");
+        assert_eq!(name(58), "Run");
+        assert_eq!(name(78), "error filter");
+        assert_eq!(name(79), "log 1, count");
+        assert_eq!(name(80), "log 1, line 1, clock");
+        assert_eq!(name(244), "log 2, line 1, clock");
+        assert_eq!(name(245), "log 2, line 1, code");
+        assert_eq!(name(561), "log 3, line 32, code");
+        assert_eq!(name(562), "profile id");
+        assert_eq!(name(567), "emergency threshold");
+        assert_eq!(name(579), "samples left");
+        assert_eq!(name(580), "profile state");
+        assert_eq!(name(581), "group count");
+        assert_eq!(name(597), "group ids");
+        assert_eq!(name(598), "past the page");
     }
 }

@@ -21,10 +21,12 @@ pub enum Profile {
     LateOpenings,
     /// The holder's key while the load stays on.
     Key,
+    /// Emergency profiles that start, run, end and are replaced.
+    Emergency,
 }
 
 impl Profile {
-    pub const ALL: [Profile; 11] = [
+    pub const ALL: [Profile; 12] = [
         Profile::Mixed,
         Profile::Edges,
         Profile::WideNumbers,
@@ -36,6 +38,7 @@ impl Profile {
         Profile::LateClock,
         Profile::LateOpenings,
         Profile::Key,
+        Profile::Emergency,
     ];
 
     /// The kinds to choose from, the frequent ones more than once.
@@ -48,7 +51,12 @@ impl Profile {
             Profile::LateClock => &[1, 1, 1, 1, 8, 9, 7, 14],
             Profile::LateOpenings => &[2, 3, 4, 5, 5, 6, 1, 1, 15],
             Profile::Key => &[1, 1, 1, 1, 1, 1, 1, 1, 5, 5, 5, 4, 3, 2, 6, 7],
-            _ => &[1, 1, 2, 3, 4, 5, 6, 7, 8, 9, 10, 11, 12, 13, 14, 15],
+            Profile::Emergency => &[
+                1, 1, 1, 1, 1, 1, 1, 1, 1, 1, 1, 1, 5, 6, 7, 8, 16, 17, 17, 17,
+            ],
+            _ => &[
+                1, 1, 2, 3, 4, 5, 6, 7, 8, 9, 10, 11, 12, 13, 14, 15, 16, 17, 17,
+            ],
         }
     }
 
@@ -107,6 +115,19 @@ const CODES_AT_EDGE: [u32; 20] = [
 const MASKS_AT_EDGE: [u32; 7] = [0, 1, LAST, !1, 1 << 13, EVENT_BITS, 0x8000_0000];
 const LOGS_AT_EDGE: [u32; 7] = [0, 1, 3, 4, 255, 257, LAST];
 const SCRIPTS_AT_EDGE: [u32; 7] = [0, 1, 2, 3, 257, 258, LAST];
+const COUNTS_AT_EDGE: [u32; 8] = [0, 1, 8, 9, 255, 256, 264, LAST];
+const IDS: [u32; 5] = [0, 1, 7, 0x8000, 0xffff];
+const EMERGENCY_AT_EDGE: [u32; 9] = [
+    0,
+    1,
+    604_799,
+    604_800,
+    604_801,
+    86_401,
+    65_536,
+    0x8000_0001,
+    LAST,
+];
 
 /// Draws the calls of one history.
 pub struct Generator {
@@ -171,6 +192,8 @@ impl Generator {
             10..=13 => numbers[0] = mask(random, reach),
             14 => numbers[0] = draw(random, reach, &[1, 2, 3], &LOGS_AT_EDGE),
             15 => numbers[0] = draw(random, reach, &[1, 2], &SCRIPTS_AT_EDGE),
+            16 => numbers = groups(random, reach),
+            17 => numbers = emergency(random, reach, page),
             _ => {}
         }
         Call { kind, numbers }
@@ -178,7 +201,7 @@ impl Generator {
 
     /// At the threshold or one above it, in rows; now and then anything.
     fn power(&mut self, random: &mut Random, reach: Reach, page: &[u8; PAGE]) -> u32 {
-        let threshold = field::get(page, field::THRESHOLD) as i32;
+        let threshold = random.pick(&thresholds(page)) as i32;
         if self.profile == Profile::Key {
             self.over = !random.one_in(6);
         } else if random.one_in(5) {
@@ -204,6 +227,7 @@ impl Generator {
                 patch_run(random, &mut page);
                 patch_switch(random, &mut page);
             }
+            Profile::Emergency => patch_profile(random, &mut page),
             Profile::LateClock => {
                 let left = random.below(3) as u32;
                 field::put(&mut page, field::CLOCK, LAST - left);
@@ -224,7 +248,7 @@ impl Generator {
     /// How often a history is patched: once in so many calls.
     pub fn patches(&self) -> usize {
         match self.profile {
-            Profile::Runs | Profile::Requests | Profile::Key => 20,
+            Profile::Runs | Profile::Requests | Profile::Key | Profile::Emergency => 20,
             Profile::LateClock | Profile::LateOpenings => 12,
             _ => 400,
         }
@@ -241,9 +265,9 @@ impl Generator {
 
 fn unknown_kind(random: &mut Random) -> Call {
     let kind = match random.below(4) {
-        0 => random.pick(&[0, 16, 17, 255, 256, LAST, 0x8000_0000]),
-        1 => 256 + random.below(17) as u32,
-        2 => random.below(15) as u32 + 1 + (random.number() << 8),
+        0 => random.pick(&[0, 18, 19, 255, 256, LAST, 0x8000_0000]),
+        1 => 256 + random.below(19) as u32,
+        2 => random.below(17) as u32 + 1 + (random.number() << 8),
         _ => random.number(),
     };
     Call {
@@ -254,13 +278,79 @@ fn unknown_kind(random: &mut Random) -> Call {
 
 /// A call that may be a [`Case`], if it is one on the meter of this page.
 fn aimed(random: &mut Random, page: &[u8; PAGE]) -> Option<Call> {
-    let threshold = field::get(page, field::THRESHOLD) as i32;
-    let over = threshold.saturating_add(1) as u32;
-    let (kind, number) = random.pick(&[(1, over), (3, 0), (5, 0), (15, 2)]);
+    let kind = random.pick(&[1, 3, 5, 7, 8, 15, 16, 17]);
     let mut numbers = [0; 5].map(|_| random.number());
-    numbers[0] = number;
+    match kind {
+        1 => {
+            let threshold = random.pick(&thresholds(page)) as i32;
+            numbers[0] = threshold.saturating_add(1) as u32;
+        }
+        7 => numbers[..3].copy_from_slice(&[random.pick(&thresholds(page)), 2, 2]),
+        8 => numbers[0] = activation(random, page),
+        15 => numbers[0] = 2,
+        16 => numbers = groups(random, Reach::Usual),
+        17 => numbers = emergency(random, Reach::Usual, page),
+        _ => {}
+    }
     let call = Call { kind, numbers };
     Case::of(call, page).map(|_| call)
+}
+
+/// The normal threshold and the profile's, which may be in force.
+fn thresholds(page: &[u8; PAGE]) -> [u32; 2] {
+    let normal = field::get(page, field::THRESHOLD);
+    match page[field::STATE] {
+        field::WAITING | field::ACTIVE => [normal, field::get(page, field::PROFILE_THRESHOLD)],
+        _ => [normal, normal],
+    }
+}
+
+/// A count and ids, those past the count too.
+fn groups(random: &mut Random, reach: Reach) -> [u32; 5] {
+    let count = draw(random, reach, &[1, 2, 3, 4, 5, 6, 7, 8], &COUNTS_AT_EDGE);
+    let mut pair = || random.pick(&IDS) << 16 | random.pick(&IDS);
+    [count, pair(), pair(), pair(), pair()]
+}
+
+/// An id, mostly of the group, a threshold near those of the page, an activation
+/// near its clock and a duration; one in eight has an id or a range amiss.
+fn emergency(random: &mut Random, reach: Reach, page: &[u8; PAGE]) -> [u32; 5] {
+    let ids = field::ids(page);
+    let mut id = match ids.is_empty() || random.one_in(8) {
+        true => random.pick(&IDS),
+        false => random.pick(&ids).into(),
+    };
+    let near = random.pick(&thresholds(page));
+    let usual = [near, near, near.saturating_sub(1), near / 2, 0];
+    let mut threshold = draw(random, reach, &usual, &THRESHOLDS_AT_EDGE);
+    let mut duration = draw(random, reach, &[1, 1, 2, 3, 4, 6], &EMERGENCY_AT_EDGE);
+    match random.below(24) {
+        0 => id |= random.number() << 16,
+        1 => duration = random.pick(&[0, 604_801]),
+        2 => threshold |= 0x8000_0000,
+        _ => {}
+    }
+    [
+        id,
+        threshold,
+        activation(random, page),
+        duration,
+        random.number(),
+    ]
+}
+
+/// A clock about that of the page, or its first or its last.
+fn activation(random: &mut Random, page: &[u8; PAGE]) -> u32 {
+    let clock = field::get(page, field::CLOCK);
+    let later = [0, 1, 1, 2, 3, 5].map(|seconds| clock.saturating_add(seconds));
+    let any = random.number();
+    match random.below(12) {
+        0 => 0,
+        1 => LAST,
+        2 => any,
+        3 => clock.saturating_sub(1),
+        _ => random.pick(&later),
+    }
 }
 
 /// Run one or two samples before its end, also for the longest durations.
@@ -272,6 +362,33 @@ fn patch_run(random: &mut Random, page: &mut [u8; PAGE]) {
     let duration = [field::OVER, field::UNDER][usize::from(exceeded)];
     field::put(page, duration, stretch);
     field::put(page, field::RUN, stretch.saturating_sub(left));
+}
+
+/// A profile about to start or to end, and sometimes a Run with it.
+fn patch_profile(random: &mut Random, page: &mut [u8; PAGE]) {
+    if random.one_in(2) {
+        patch_run(random, page);
+    }
+    let normal = field::get(page, field::THRESHOLD);
+    let state = random.pick(&[field::WAITING, field::ACTIVE]);
+    let duration = random.pick(&[1, 2, 3, 604_800]);
+    let left = match state {
+        field::WAITING => duration,
+        _ => random.pick(&[1, 2, 3]).min(duration),
+    };
+    page[field::STATE] = state;
+    let id = random.pick(&IDS) as u16;
+    page[field::PROFILE_ID..][..2].copy_from_slice(&id.to_be_bytes());
+    let any = random.below(5000) as u32;
+    let threshold = random.pick(&[normal, normal / 2, any]);
+    field::put(page, field::PROFILE_THRESHOLD, threshold);
+    let activation = activation(random, page);
+    field::put(page, field::ACTIVATION, activation);
+    field::put(page, field::DURATION, duration);
+    field::put(page, field::LEFT, left);
+    page[field::COUNT..].fill(0);
+    page[field::COUNT] = 2;
+    page[field::IDS..][..2].copy_from_slice(&id.to_be_bytes());
 }
 
 fn patch_switch(random: &mut Random, page: &mut [u8; PAGE]) {
@@ -336,12 +453,14 @@ mod tests {
     fn aimed_calls_meet_every_case() {
         let mut random = Random::new(1);
         let mut page = [0; PAGE];
+        field::put(&mut page, field::CLOCK, 1000);
         page[field::LOGS[2]] = 2;
         page[field::line(2, 0) + 4] = 65;
         page[field::line(2, 1) + 4] = 61;
         let mut met = BTreeSet::new();
         for _ in 0..10_000 {
             patch_switch(&mut random, &mut page);
+            patch_profile(&mut random, &mut page);
             patch_run(&mut random, &mut page);
             if let Some(call) = aimed(&mut random, &page) {
                 met.extend(Case::of(call, &page));

@@ -7,10 +7,10 @@ use std::time::{Duration, SystemTime, UNIX_EPOCH};
 pub const USAGE: &str = "\
 usage: compare [--calls N] [--seed S] [--seconds T] [--planted]
   --calls N    calls to compare, 2000000 if not given; from 100000 on the run
-               fails unless every answer occurred (0 to 11 and 13 from calls,
-               fresh and reader, 0, 1, 5, 8 and 100 to 102 from replay), every
-               letter a to h from calls, and every case that document 02's
-               requests are about; below, that demand is left out
+               fails unless every answer occurred (0 to 11 and 13 to 16 from
+               calls, fresh and reader, 0, 1, 5, 8 and 100 to 102 from replay),
+               every letter a to h from calls, and every case that document
+               02's requests are about; below, that demand is left out
   --seed S     a number, or `random`; else COMPARE_SEED; else 1
   --seconds T  stops after T seconds, 60 if not given; the run fails if fewer
                than N calls were compared by then; the fixed sweeps at its

@@ -6,7 +6,7 @@ use plain::fault;
 
 type Run = fn(&Plan) -> Result<Counts, Box<Found>>;
 
-pub const PLANTED: [(&str, Run); 36] = [
+pub const PLANTED: [(&str, Run); 58] = [
     (
         "trips at power equal to threshold",
         run::<{ fault::TRIPS_AT_THRESHOLD }>,
@@ -144,5 +144,93 @@ pub const PLANTED: [(&str, Run); 36] = [
     (
         "loses the threshold where a manual reconnect arms the limiter",
         run::<{ fault::ARMING_LOSES_THRESHOLD }>,
+    ),
+    (
+        "ends a profile by the clock",
+        run::<{ fault::ENDS_BY_CLOCK }>,
+    ),
+    (
+        "ends a profile before its last sample is judged",
+        run::<{ fault::ENDS_BEFORE_JUDGING }>,
+    ),
+    (
+        "starts a profile after its first sample is judged",
+        run::<{ fault::STARTS_AFTER_JUDGING }>,
+    ),
+    (
+        "starts a profile above activation, not at it",
+        run::<{ fault::STARTS_PAST_ACTIVATION }>,
+    ),
+    (
+        "governs one sample fewer",
+        run::<{ fault::GOVERNS_ONE_FEWER }>,
+    ),
+    (
+        "governs one sample more",
+        run::<{ fault::GOVERNS_ONE_MORE }>,
+    ),
+    (
+        "logs 67 where the threshold in force stays",
+        run::<{ fault::LOGS_67_WITHOUT_CHANGE }>,
+    ),
+    (
+        "leaves Run where the threshold in force changes",
+        run::<{ fault::CHANGE_KEEPS_RUN }>,
+    ),
+    (
+        "ends Exceeded where the threshold in force changes",
+        run::<{ fault::CHANGE_ENDS_EXCEEDED }>,
+    ),
+    (
+        "replaces an active profile without a line",
+        run::<{ fault::REPLACES_SILENTLY }>,
+    ),
+    (
+        "ends an active profile with a limiter setting",
+        run::<{ fault::LIMITER_ENDS_PROFILE }>,
+    ),
+    (
+        "ends a profile with new groups",
+        run::<{ fault::GROUPS_END_PROFILE }>,
+    ),
+    (
+        "starts a profile by setting the clock",
+        run::<{ fault::CLOCK_STARTS_PROFILE }>,
+    ),
+    (
+        "ends an active profile by setting the clock back",
+        run::<{ fault::CLOCK_ENDS_PROFILE }>,
+    ),
+    (
+        "cuts an id to 16 bits before it is looked up",
+        run::<{ fault::CUTS_GROUP_ID }>,
+    ),
+    (
+        "cuts a count of ids to its low byte",
+        run::<{ fault::CUTS_GROUP_COUNT }>,
+    ),
+    (
+        "answers 16 before 15",
+        run::<{ fault::EXCHANGES_15_AND_16 }>,
+    ),
+    (
+        "keeps ids past the count",
+        run::<{ fault::KEEPS_IDS_PAST_COUNT }>,
+    ),
+    (
+        "shows the threshold in force as the normal one",
+        run::<{ fault::SHOWS_THRESHOLD_IN_FORCE }>,
+    ),
+    (
+        "reads any samples left",
+        run::<{ fault::READS_ANY_SAMPLES_LEFT }>,
+    ),
+    (
+        "reads numbers of a profile where there is none",
+        run::<{ fault::READS_FIELDS_WITHOUT_PROFILE }>,
+    ),
+    (
+        "demands that a profile's id stays in the group",
+        run::<{ fault::DEMANDS_MEMBERSHIP }>,
     ),
 ];

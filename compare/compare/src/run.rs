@@ -114,7 +114,7 @@ fn spoil(random: &mut Random, list: &mut Vec<u8>) {
         1 => list.truncate(random.below(22)),
         2 => list.truncate(random.below(list.len() + 1)),
         3 => list.truncate(list.len() - 1),
-        4 => list[0] = random.pick(&[1, 2, 15, 16, 255]),
+        4 => list[0] = random.pick(&[1, 2, 15, 16, 17, 18, 255]),
         5 => list[random.below(21)] = random.byte(),
         6 => {
             let place = random.below(list.len());
@@ -125,18 +125,24 @@ fn spoil(random: &mut Random, list: &mut Vec<u8>) {
 }
 
 /// Every value at every byte of three pages, every length, and the longest
-/// duration run to its end.
+/// durations run to their end.
 fn sweep<const FAULT: u8>(sides: &mut Sides<FAULT>, random: &mut Random) -> Compared<()> {
-    for rounds in [0, 4, 40] {
-        busy_meter(sides, rounds)?;
+    for (rounds, activation) in [(0, None), (4, Some(u32::MAX)), (40, Some(0))] {
+        busy_meter(sides, rounds, activation)?;
         sweep_bytes(sides)?;
         sweep_lengths(sides, random)?;
     }
-    longest_runs(sides)
+    longest_runs(sides)?;
+    longest_profile(sides)
 }
 
-/// Events, moves and registers in all three logs, `rounds` times.
-fn busy_meter<const FAULT: u8>(sides: &mut Sides<FAULT>, rounds: usize) -> Compared<()> {
+/// Events, moves and registers in all three logs, `rounds` times; then, where an
+/// activation is given, three groups and a profile, which starts if it is past.
+fn busy_meter<const FAULT: u8>(
+    sides: &mut Sides<FAULT>,
+    rounds: usize,
+    activation: Option<u32>,
+) -> Compared<()> {
     let settings = Settings {
         mode: 5,
         threshold: 3000,
@@ -151,7 +157,25 @@ fn busy_meter<const FAULT: u8>(sides: &mut Sides<FAULT>, rounds: usize) -> Compa
     for (kind, number) in calls.repeat(rounds) {
         sides.call(call(kind, number))?;
     }
-    Ok(())
+    let Some(activation) = activation else {
+        return Ok(());
+    };
+    sides.call(GROUPS)?;
+    sides.call(profile(activation, 300))?;
+    sides.call(call(1, 0))
+}
+
+/// Three ids.
+const GROUPS: Call = Call {
+    kind: 16,
+    numbers: [3, 0x0102_0007, 0xffff_0000, 0, 0],
+};
+
+fn profile(activation: u32, duration: u32) -> Call {
+    Call {
+        kind: 17,
+        numbers: [7, 1000, activation, duration, 0],
+    }
 }
 
 fn sweep_bytes<const FAULT: u8>(sides: &mut Sides<FAULT>) -> Compared<()> {
@@ -172,7 +196,7 @@ fn sweep_lengths<const FAULT: u8>(sides: &mut Sides<FAULT>, random: &mut Random)
         let mut bytes = page.to_vec();
         bytes.resize(length, random.byte());
         sides.inspect(&bytes, call(1, 0))?;
-        sides.inspect(&bytes, call(16, 0))?;
+        sides.inspect(&bytes, call(18, 0))?;
     }
     Ok(())
 }
@@ -193,6 +217,29 @@ fn longest_runs<const FAULT: u8>(sides: &mut Sides<FAULT>) -> Compared<()> {
     for (samples, power) in turns {
         for _ in 0..samples {
             call(1, power).append_to(&mut list);
+        }
+        sides.replay(&list, PAGE, None)?;
+    }
+    Ok(())
+}
+
+/// The longest profile: its last sample but one, its last.
+fn longest_profile<const FAULT: u8>(sides: &mut Sides<FAULT>) -> Compared<()> {
+    const LONGEST: usize = 604_800;
+    let settings = Settings {
+        mode: 5,
+        threshold: 3000,
+        over: 2,
+        under: 3,
+        clock: 0,
+    };
+    let mut list = Vec::new();
+    fresh_record(settings).append_to(&mut list);
+    GROUPS.append_to(&mut list);
+    profile(1, LONGEST as u32).append_to(&mut list);
+    for samples in [LONGEST - 1, 1] {
+        for _ in 0..samples {
+            call(1, 1001).append_to(&mut list);
         }
         sides.replay(&list, PAGE, None)?;
     }

@@ -77,3 +77,47 @@ pub const LOGS_67_WHEN_ARMED: u8 = 34;
 pub const ARMING_LOSES_DURATIONS: u8 = 35;
 /// A manual reconnect that arms sets the threshold to 0.
 pub const ARMING_LOSES_THRESHOLD: u8 = 36;
+/// A profile ends when the clock has passed activation by its duration.
+pub const ENDS_BY_CLOCK: u8 = 37;
+/// A profile ends before its last sample is judged.
+pub const ENDS_BEFORE_JUDGING: u8 = 38;
+/// A profile starts after its first sample is judged.
+pub const STARTS_AFTER_JUDGING: u8 = 39;
+/// A profile starts once the clock is above activation, not at it.
+pub const STARTS_PAST_ACTIVATION: u8 = 40;
+/// The sample at which a profile starts takes two of its samples.
+pub const GOVERNS_ONE_FEWER: u8 = 41;
+/// The sample at which a profile starts takes none of its samples.
+pub const GOVERNS_ONE_MORE: u8 = 42;
+/// Line 67 and Run 0 where the threshold in force stays the same number.
+pub const LOGS_67_WITHOUT_CHANGE: u8 = 43;
+/// A change of the threshold in force leaves Run.
+pub const CHANGE_KEEPS_RUN: u8 = 44;
+/// A change of the threshold in force ends Exceeded.
+pub const CHANGE_ENDS_EXCEEDED: u8 = 45;
+/// A kind 17 in place of an active profile leaves Run and logs nothing.
+pub const REPLACES_SILENTLY: u8 = 46;
+/// A limiter setting ends an active profile.
+pub const LIMITER_ENDS_PROFILE: u8 = 47;
+/// New groups end the profile.
+pub const GROUPS_END_PROFILE: u8 = 48;
+/// Setting the clock to activation starts the profile.
+pub const CLOCK_STARTS_PROFILE: u8 = 49;
+/// Setting the clock back ends an active profile.
+pub const CLOCK_ENDS_PROFILE: u8 = 50;
+/// An id is cut to its 16 bits before it is looked up.
+pub const CUTS_GROUP_ID: u8 = 51;
+/// A count of ids is cut to its low byte before it is judged.
+pub const CUTS_GROUP_COUNT: u8 = 52;
+/// Refusal 16 comes before 15.
+pub const EXCHANGES_15_AND_16: u8 = 53;
+/// Ids past the count are kept.
+pub const KEEPS_IDS_PAST_COUNT: u8 = 54;
+/// The page's second area shows the threshold in force.
+pub const SHOWS_THRESHOLD_IN_FORCE: u8 = 55;
+/// The reader takes any samples left.
+pub const READS_ANY_SAMPLES_LEFT: u8 = 56;
+/// The reader takes numbers of a profile where there is none.
+pub const READS_FIELDS_WITHOUT_PROFILE: u8 = 57;
+/// A record is sound only if the profile's id is in the group.
+pub const DEMANDS_MEMBERSHIP: u8 = 58;

@@ -1,5 +1,5 @@
 //! The refusals by number: 1 to 13 are those of document 01's "Where a call
-//! stops"; 100 to 102 are the C interface's (`pillar.h`), which numbers the
+//! stops", 14 to 16 those of request A3; 100 to 102 are the C interface's (`pillar.h`), which numbers the
 //! faults of a list.
 
 /// "mode above 6" (fresh, call 6)
@@ -16,9 +16,9 @@ pub const DURATION: u8 = 5;
 pub const CODE: u8 = 6;
 /// "log not 1–3" (call 14)
 pub const LOG: u8 = 7;
-/// "buffer under 558 bytes" (writer)
+/// Buffer under the page's length (writer)
 pub const BUFFER: u8 = 8;
-/// "length not 558" (reader)
+/// Length not the page's (reader)
 pub const LENGTH: u8 = 9;
 /// "a pair differs" (reader)
 pub const PAIR: u8 = 10;
@@ -26,8 +26,14 @@ pub const PAIR: u8 = 10;
 pub const UNSOUND_PAGE: u8 = 11;
 /// "not sound; every call and the writer"
 pub const UNSOUND: u8 = 12;
-/// Kind "not 1–15"
+/// Kind "not 1–17" (02, A3)
 pub const KIND: u8 = 13;
+/// "more than eight ids (kind 16)" (02, A3)
+pub const GROUPS: u8 = 14;
+/// "id not in the group (kind 17)" (02, A3)
+pub const GROUP_ID: u8 = 15;
+/// "duration outside 1 to 604,800, or threshold negative, after 15" (02, A3)
+pub const PROFILE: u8 = 16;
 
 /// `PILLAR_REFUSED_LIST_EMPTY`: a list without a byte
 pub const EMPTY_LIST: u8 = 100;

@@ -1,8 +1,8 @@
 //! Document 01's worked example and page, and the rules around them.
 
 use plain::{
-    CONNECTED, DISCONNECT, DISCONNECTED, LONGEST, Letter, Meter, PAGE, READY, STANDARD, Vectorised,
-    refusal,
+    ACTIVE, CONNECTED, DISCONNECT, DISCONNECTED, EmergencyProfile, Groups, LONGEST,
+    LONGEST_EMERGENCY, Letter, Meter, PAGE, READY, STANDARD, Vectorised, WAITING, refusal,
 };
 
 const FRESH: (u32, [u32; 5]) = (0, [5, 3000, 2, 3, 1000]);
@@ -151,28 +151,46 @@ fn page_has_the_stated_layout() {
     meter.mode = 6;
     meter.switch = READY;
     meter.run = 1;
+    meter.profile = EmergencyProfile {
+        id: 0x5152,
+        threshold: 0x6162_6364,
+        activation: 0x7172_7374,
+        duration: 0x0001_0203,
+        left: 0x0001_0202,
+        state: ACTIVE,
+    };
+    meter.groups = Groups {
+        count: 3,
+        ids: [0x8182, 0x8384, 0x8586, 0, 0, 0, 0, 0],
+    };
     let page = page_of(&meter);
 
     let pairs = [
-        0, 32, 0, 6, 0, 38, 0, 17, 0, 55, 0, 4, 0, 59, 0, 8, 0, 67, 0, 8, 0, 75, 0, 161, 0, 236, 0,
-        161, 1, 141, 0, 161,
+        0, 36, 0, 6, 0, 42, 0, 17, 0, 59, 0, 4, 0, 63, 0, 8, 0, 71, 0, 8, 0, 79, 0, 161, 0, 240, 0,
+        161, 1, 145, 0, 161, 2, 50, 0, 36,
     ];
-    assert_eq!(page[..32], pairs);
-    assert_eq!(page[32..38], [6, 2, 1, 2, 3, 4]);
+    assert_eq!(page[..36], pairs);
+    assert_eq!(page[36..42], [6, 2, 1, 2, 3, 4]);
     let limiter = [0, 0, 11, 184, 0, 0, 0, 2, 0, 0, 0, 3, 0, 0, 0, 0, 1];
-    assert_eq!(page[38..55], limiter);
-    assert_eq!(page[55..59], [0, 0, 3, 238]);
+    assert_eq!(page[42..59], limiter);
+    assert_eq!(page[59..63], [0, 0, 3, 238]);
     let alarms = [0x11, 0x12, 0x13, 0x14, 0x21, 0x22, 0x23, 0x24];
-    assert_eq!(page[59..67], alarms);
+    assert_eq!(page[63..71], alarms);
     let errors = [0x31, 0x32, 0x33, 0x34, 0x41, 0x42, 0x43, 0x44];
-    assert_eq!(page[67..75], errors);
-    assert_eq!(page[75..397], [0; 322]);
+    assert_eq!(page[71..79], errors);
+    assert_eq!(page[79..401], [0; 322]);
     let lines = [
         6, 0, 0, 3, 235, 65, 0, 0, 3, 235, 64, 0, 0, 3, 235, 61, 0, 0, 3, 238, 62, 0, 0, 3, 238,
         59, 0, 0, 3, 238, 63,
     ];
-    assert_eq!(page[397..428], lines);
-    assert_eq!(page[428..], [0; 130]);
+    assert_eq!(page[401..432], lines);
+    assert_eq!(page[432..562], [0; 130]);
+    let profile = [
+        0x51, 0x52, 0x61, 0x62, 0x63, 0x64, 0x71, 0x72, 0x73, 0x74, 0, 1, 2, 3, 0, 1, 2, 2, 2,
+    ];
+    assert_eq!(page[562..581], profile);
+    assert_eq!(page[581..588], [3, 0x81, 0x82, 0x83, 0x84, 0x85, 0x86]);
+    assert_eq!(page[588..], [0; 10]);
     assert_eq!(Meter::read_page(&page), Ok(meter));
 }
 
@@ -183,11 +201,11 @@ fn the_logs_stand_in_order_on_the_page() {
     meter.event(46).unwrap();
     meter.event(68).unwrap();
     let page = page_of(&meter);
-    assert_eq!(page[75..81], [1, 0, 0, 3, 232, 6]);
-    assert_eq!(page[236..242], [1, 0, 0, 3, 232, 46]);
-    assert_eq!(page[397..403], [1, 0, 0, 3, 232, 68]);
+    assert_eq!(page[79..85], [1, 0, 0, 3, 232, 6]);
+    assert_eq!(page[240..246], [1, 0, 0, 3, 232, 46]);
+    assert_eq!(page[401..407], [1, 0, 0, 3, 232, 68]);
     assert_eq!(
-        page[59..75],
+        page[63..79],
         [0, 0, 0, 1, 0, 0, 0, 0, 0, 0, 0, 1, 0, 0, 0, 0]
     );
 }
@@ -215,25 +233,27 @@ fn the_reader_refuses_in_order() {
     };
     assert_eq!(read(&|_| ()), 0);
     assert_eq!(read(&|page| page[3] = 7), 10);
-    assert_eq!(read(&|page| (page[3], page[32]) = (7, 9)), 10);
-    assert_eq!(read(&|page| page[32] = 7), 11);
-    assert_eq!(read(&|page| page[32] = 0), 0);
-    assert_eq!(read(&|page| (page[32], page[33]) = (0, 2)), 11);
-    assert_eq!(read(&|page| page[33] = 3), 11);
-    assert_eq!(read(&|page| page[38] = 0x80), 11);
-    assert_eq!(read(&|page| page[45] = 0), 11);
-    assert_eq!(read(&|page| page[46] = 1), 11);
-    assert_eq!(read(&|page| page[50] = 1), 0);
-    assert_eq!(read(&|page| page[50] = 2), 11);
+    assert_eq!(read(&|page| page[35] = 37), 10);
+    assert_eq!(read(&|page| (page[3], page[36]) = (7, 9)), 10);
+    assert_eq!(read(&|page| page[36] = 7), 11);
+    assert_eq!(read(&|page| page[36] = 0), 0);
+    assert_eq!(read(&|page| (page[36], page[37]) = (0, 2)), 11);
+    assert_eq!(read(&|page| page[37] = 3), 11);
+    assert_eq!(read(&|page| page[42] = 0x80), 11);
+    assert_eq!(read(&|page| page[49] = 0), 11);
+    assert_eq!(read(&|page| page[50] = 1), 11);
     assert_eq!(read(&|page| page[54] = 1), 0);
     assert_eq!(read(&|page| page[54] = 2), 11);
-    assert_eq!(read(&|page| page[75] = 33), 11);
-    assert_eq!(read(&|page| page[75] = 1), 11);
-    assert_eq!(read(&|page| (page[75], page[80]) = (1, 255)), 0);
-    assert_eq!(read(&|page| (page[75], page[80]) = (1, 40)), 11);
-    assert_eq!(read(&|page| page[557] = 255), 11);
-    assert_eq!(Meter::read_page(&good[..557]), Err(refusal::LENGTH));
-    assert_eq!(Meter::read_page(&[0; 559]), Err(refusal::LENGTH));
+    assert_eq!(read(&|page| page[58] = 1), 0);
+    assert_eq!(read(&|page| page[58] = 2), 11);
+    assert_eq!(read(&|page| page[79] = 33), 11);
+    assert_eq!(read(&|page| page[79] = 1), 11);
+    assert_eq!(read(&|page| (page[79], page[84]) = (1, 255)), 0);
+    assert_eq!(read(&|page| (page[79], page[84]) = (1, 40)), 11);
+    assert_eq!(read(&|page| page[561] = 255), 11);
+    assert_eq!(Meter::read_page(&good[..597]), Err(refusal::LENGTH));
+    assert_eq!(Meter::read_page(&good[..558]), Err(refusal::LENGTH));
+    assert_eq!(Meter::read_page(&[0; 599]), Err(refusal::LENGTH));
 }
 
 /// Wherever the byte stands, and with either test of the logs.
@@ -241,7 +261,7 @@ fn the_reader_refuses_in_order() {
 fn the_reader_refuses_any_byte_past_the_lines() {
     let (meter, _) = worked();
     let good = page_of(&meter);
-    let past = (76..236).chain(237..397).chain(428..PAGE);
+    let past = (80..240).chain(241..401).chain(432..562);
     for place in past {
         let mut page = good;
         page[place] = 64;
@@ -279,8 +299,9 @@ fn numbers_are_judged_at_their_full_width() {
     assert_eq!(answer(14, 257), Err(7));
     assert_eq!(answer(257, 0), Err(13));
     assert_eq!(answer(0, 0), Err(13));
-    assert_eq!(answer(16, 0), Err(13));
+    assert_eq!(answer(18, 0), Err(13));
     assert_eq!(answer(7, 1 << 31), Err(4));
+    assert_eq!(answer(16, 257), Err(14));
     assert_eq!(meter, before);
 }
 
@@ -289,11 +310,11 @@ fn an_unsound_record_is_refused_by_every_call_and_the_writer() {
     let mut meter = example();
     meter.run = 2;
     let before = meter;
-    for kind in 1..=15 {
+    for kind in 1..=17 {
         let answer = meter.command(kind, [9, 0, 0, 0, 0]);
         assert_eq!(answer, Err(refusal::UNSOUND), "call {kind}");
     }
-    assert_eq!(meter.command(16, [0; 5]), Err(refusal::KIND));
+    assert_eq!(meter.command(18, [0; 5]), Err(refusal::KIND));
     assert_eq!(meter.write_page(&mut []), Err(refusal::UNSOUND));
     // A list tests it once, and its calls no more.
     meter.run(&list());
@@ -318,10 +339,10 @@ fn a_call_on_a_page_judges_the_kind_first() {
     let mut other_pair = good;
     other_pair[0] ^= 1;
     let mut unsound = good;
-    unsound[32] = 7;
+    unsound[36] = 7;
     let pages = [
         (&good[..], 0),
-        (&good[..557], refusal::LENGTH),
+        (&good[..597], refusal::LENGTH),
         (&other_pair, refusal::PAIR),
         (&unsound, refusal::UNSOUND_PAGE),
     ];
@@ -334,7 +355,7 @@ fn a_call_on_a_page_judges_the_kind_first() {
         };
         assert_eq!(call(10), expected);
         assert_eq!(call(0), refusal::KIND);
-        assert_eq!(call(16), refusal::KIND);
+        assert_eq!(call(18), refusal::KIND);
     }
 }
 
@@ -580,4 +601,186 @@ fn nothing_else_arms_the_limiter() {
         }
     }
     assert!(!armed(5, CONNECTED, &[(4, 0)]));
+}
+
+/// A meter with the group 7, threshold 10, Over and Under 2, clock 100.
+fn grouped() -> Meter {
+    let mut meter = Meter::fresh(5, 10, 2, 2, 100).unwrap();
+    meter.set_emergency_groups(1, [7 << 16, 0, 0, 0]).unwrap();
+    meter
+}
+
+/// The same with a profile of this threshold, activation and duration.
+fn waiting(threshold: i32, activation: u32, duration: u32) -> Meter {
+    let mut meter = grouped();
+    let set = meter.set_emergency_profile(7, threshold, activation, duration);
+    assert_eq!(set, Ok(None));
+    assert_eq!(
+        (meter.profile.state, meter.profile.left),
+        (WAITING, duration)
+    );
+    meter
+}
+
+fn run_samples(meter: &mut Meter, powers: &[i32]) {
+    for &power in powers {
+        meter.sample(power).unwrap();
+    }
+}
+
+/// "It goes active with the first sample whose advanced clock has reached
+/// activation, and governs that many samples, that one included" (02, A3)
+#[test]
+fn a_profile_starts_at_activation_and_ends_by_its_samples() {
+    let states = |activation, powers: &[i32]| {
+        let mut meter = waiting(5, activation, 2);
+        let state = |&power: &i32| {
+            meter.sample(power).unwrap();
+            (meter.profile.state, meter.profile.left)
+        };
+        powers.iter().map(state).collect::<Vec<_>>()
+    };
+    let whole = [(ACTIVE, 1), (0, 0), (0, 0)];
+    assert_eq!(states(0, &[0, 0, 0]), whole);
+    assert_eq!(states(101, &[0, 0, 0]), whole);
+    let later = [(WAITING, 2), (ACTIVE, 1), (0, 0)];
+    assert_eq!(states(102, &[0, 0, 0]), later);
+    let mut meter = waiting(5, 0, 1);
+    meter.sample(0).unwrap();
+    assert_eq!(meter.profile, EmergencyProfile::NONE);
+    assert_eq!(codes(&meter), [67, 67]);
+}
+
+/// "at the start before the sample is judged, at the end after the last governed
+/// one" (02, A3)
+#[test]
+fn governed_samples_are_judged_by_the_profile() {
+    let mut meter = waiting(5, 0, 2);
+    run_samples(&mut meter, &[6, 6]);
+    assert_eq!(codes(&meter), [67, 65, 64, 67]);
+    assert!(meter.exceeded);
+    // The normal threshold again.
+    run_samples(&mut meter, &[10, 10]);
+    assert_eq!(codes(&meter), [67, 65, 64, 67, 66, 69]);
+}
+
+/// "Whenever the threshold in force becomes another number, Run is 0 and 67 is
+/// logged" (02, A3)
+#[test]
+fn a_threshold_change_begins_anew() {
+    let mut meter = waiting(5, 102, 3);
+    run_samples(&mut meter, &[11]);
+    assert_eq!(meter.run, 1);
+    run_samples(&mut meter, &[11]);
+    assert_eq!((meter.run, meter.exceeded), (1, false));
+    assert_eq!(codes(&meter), [67]);
+    // The same number changes nothing, and a row runs on.
+    let mut meter = waiting(10, 102, 1);
+    run_samples(&mut meter, &[11, 11]);
+    assert_eq!(codes(&meter), [65, 64]);
+    // Exceeded stays.
+    let mut meter = waiting(20, 103, 9);
+    run_samples(&mut meter, &[11, 11, 15]);
+    assert_eq!((meter.run, meter.exceeded), (1, true));
+    assert_eq!(codes(&meter), [65, 64, 67]);
+}
+
+/// "or at a kind 17 that replaces an active profile" (02, A3)
+#[test]
+fn a_profile_in_place_of_another_waits() {
+    let mut meter = waiting(5, 0, 9);
+    assert_eq!(meter.set_emergency_profile(7, 4, 0, 9), Ok(None));
+    assert_eq!(codes(&meter), []);
+    run_samples(&mut meter, &[11]);
+    assert_eq!(meter.set_emergency_profile(7, 3, 0, 8), Ok(None));
+    let profile = meter.profile;
+    let found = (profile.state, profile.threshold, profile.left, meter.run);
+    assert_eq!(found, (WAITING, 3, 8, 0));
+    assert_eq!(codes(&meter), [67, 67]);
+    let mut meter = waiting(10, 0, 9);
+    run_samples(&mut meter, &[11]);
+    assert_eq!(meter.set_emergency_profile(7, 3, 0, 8), Ok(None));
+    assert_eq!((codes(&meter), meter.run), (vec![], 1));
+}
+
+/// "setting the clock back or new groups don't end it"; "Call 7 sets the normal
+/// threshold and keeps its own Run 0 and single 67" (02, A3)
+#[test]
+fn other_calls_leave_a_profile() {
+    let mut meter = waiting(5, 0, 3);
+    run_samples(&mut meter, &[6]);
+    let profile = meter.profile;
+    meter.set_clock(0).unwrap();
+    meter.set_emergency_groups(0, [0; 4]).unwrap();
+    assert_eq!((meter.profile, meter.run), (profile, 1));
+    meter.set_limiter(5, 2, 2).unwrap();
+    assert_eq!((meter.profile, meter.run), (profile, 0));
+    assert_eq!(codes(&meter), [67, 67]);
+    // The end finds the same number, and the row runs on.
+    run_samples(&mut meter, &[0, 6]);
+    assert_eq!(meter.profile, EmergencyProfile::NONE);
+    assert_eq!((codes(&meter), meter.run), (vec![67, 67], 1));
+    // Call 8 starts nothing, and set back it delays.
+    let mut meter = waiting(5, 200, 3);
+    meter.set_clock(300).unwrap();
+    assert_eq!(meter.profile.state, WAITING);
+    meter.set_clock(100).unwrap();
+    run_samples(&mut meter, &[0]);
+    assert_eq!(meter.profile.state, WAITING);
+}
+
+/// "14, more than eight ids (kind 16); 15, id not in the group (kind 17); 16,
+/// duration outside 1 to 604,800, or threshold negative, after 15" (02, A3)
+#[test]
+fn groups_and_profiles_are_refused_in_order() {
+    let mut meter = grouped();
+    let before = meter;
+    let ids = [u32::MAX; 4];
+    for count in [9, 256, 264, u32::MAX] {
+        let answer = meter.set_emergency_groups(count, ids);
+        assert_eq!(answer, Err(refusal::GROUPS), "{count} ids");
+    }
+    let set = |id, threshold, duration| {
+        let mut after = meter;
+        let answer = after.set_emergency_profile(id, threshold, 0, duration);
+        assert!(answer.is_ok() || after == meter);
+        answer.err().unwrap_or(0)
+    };
+    assert_eq!(set(7, 0, 1), 0);
+    assert_eq!(set(7, i32::MAX, LONGEST_EMERGENCY), 0);
+    assert_eq!(set(7, -1, 1), 16);
+    assert_eq!(set(7, 0, 0), 16);
+    assert_eq!(set(7, 0, LONGEST_EMERGENCY + 1), 16);
+    assert_eq!(set(0x1_0007, 0, 1), 15);
+    assert_eq!(set(8, -1, 0), 15);
+    assert_eq!(set(0, 0, 1), 15);
+    assert_eq!(meter, before);
+    meter.set_emergency_groups(8, ids).unwrap();
+    assert_eq!(meter.groups.ids, [0xffff; 8]);
+    meter.set_emergency_groups(3, ids).unwrap();
+    assert_eq!(meter.groups.ids, [0xffff, 0xffff, 0xffff, 0, 0, 0, 0, 0]);
+}
+
+/// Every byte of the ninth area, with each value: the reader takes it where the
+/// record would be sound, and writes it back.
+#[test]
+fn the_reader_judges_the_ninth_area() {
+    let mut active = waiting(5, 0, 300);
+    run_samples(&mut active, &[0; 5]);
+    for meter in [grouped(), waiting(5, 200, 300), active] {
+        let good = page_of(&meter);
+        for (place, value) in
+            (562..PAGE).flat_map(|place| (0..=255).map(move |value| (place, value)))
+        {
+            let mut page = good;
+            page[place] = value;
+            let read = Meter::read_page(&page);
+            assert_eq!(Vectorised::read_page(&page).err(), read.err());
+            let Ok(meter) = read else {
+                assert_eq!(read, Err(refusal::UNSOUND_PAGE));
+                continue;
+            };
+            assert_eq!(page_of(&meter), page, "byte {place}");
+        }
+    }
 }

@@ -2,7 +2,7 @@
 
 use crate::side::{Call, Calls, Page, Side};
 use pillar::PAGE;
-use plain::{LINES, Meter, refusal};
+use plain::{LINES, LONGEST_EMERGENCY, Meter, refusal};
 
 /// How many calls a list of one kind of call has.
 const CALLS: usize = 1_000;
@@ -73,6 +73,16 @@ const CHANGES: [Call; 7] = [
     call(12, 2),
     call(13, 2),
 ];
+const EMERGENCIES: [Call; 2] = [
+    Call {
+        kind: 16,
+        numbers: [3, 0x0007_0008, 0x0009_0000, 0, 0],
+    },
+    Call {
+        kind: 17,
+        numbers: [7, 4000, 0, LONGEST_EMERGENCY, 0],
+    },
+];
 const CLEARINGS: [Call; 3] = [call(14, 1), call(14, 2), call(14, 3)];
 /// Refused, so that no page is written: mode 7.
 const REFUSED: Call = call(6, 7);
@@ -96,8 +106,8 @@ const MIXED: [Call; 12] = [
 ];
 
 /// Where a 7 makes a reader refuse the page: the end of the last pair, the mode.
-const PAIR_END: usize = 31;
-const MODE: usize = 32;
+const PAIR_END: usize = 35;
+const MODE: usize = 36;
 
 /// Every item, in the table's order.
 pub fn items() -> Vec<Item> {
@@ -105,24 +115,29 @@ pub fn items() -> Vec<Item> {
     let some = page(SETTINGS, SOME_LINES);
     let full = page(SETTINGS, LINES);
     let hasty = page(HASTY, LINES);
+    let governed = governed_page();
     let other_pair = refused_page(full, PAIR_END, refusal::PAIR);
     let unsound = refused_page(full, MODE, refusal::UNSOUND_PAGE);
     let mut items = vec![
         calls("quiet sample, empty logs", empty, &QUIET),
         calls("quiet sample, 11 lines a log", some, &QUIET),
         calls("quiet sample, full logs", full, &QUIET),
+        calls("governed sample, full logs", governed, &QUIET),
         calls("firing sample, full logs", hasty, &FIRING),
         calls("event, full logs", full, &EVENTS),
         calls("request, full logs", full, &REQUESTS),
         calls("setting, full logs", full, &CHANGES),
+        calls("groups and profile, full logs", full, &EMERGENCIES),
         calls("clear log", full, &CLEARINGS),
         methods("quiet sample by the method, empty logs", empty, &QUIET),
         methods("quiet sample by the method, 11 lines a log", some, &QUIET),
         methods("quiet sample by the method, full logs", full, &QUIET),
+        methods("governed sample by the method, full logs", governed, &QUIET),
         methods("firing sample by the method, full logs", hasty, &FIRING),
         methods("event by the method, full logs", full, &EVENTS),
         methods("request by the method, full logs", full, &REQUESTS),
         methods("setting by the method, full logs", full, &CHANGES),
+        methods("groups and profile by the method", full, &EMERGENCIES),
         methods("clear log by the method", full, &CLEARINGS),
         short("soundness, empty logs", empty, Job::Sound),
         short("soundness, full logs", full, Job::Sound),
@@ -206,12 +221,23 @@ fn filling(lines: usize) -> Vec<Call> {
 }
 
 fn page(settings: [u32; 5], lines: usize) -> Page {
+    page_after(settings, &filling(lines))
+}
+
+/// Full logs and the longest profile, which has governed a sample and outlasts
+/// every round.
+fn governed_page() -> Page {
+    let begun = [&EMERGENCIES[..], &QUIET[..1]].concat();
+    page_after(SETTINGS, &[filling(LINES), begun].concat())
+}
+
+fn page_after(settings: [u32; 5], calls: &[Call]) -> Page {
     let [mode, threshold, over, under, clock] = settings;
     let fresh = Meter::fresh(mode, threshold as i32, over, under, clock);
     let mut meter = fresh.expect("the settings are in range");
-    for call in filling(lines) {
+    for call in calls {
         let answer = meter.command(call.kind, call.numbers);
-        answer.expect("the events are listed");
+        answer.expect("the call is accepted");
     }
     let mut page = [0; PAGE];
     meter.write_page(&mut page).expect("a page holds a page");

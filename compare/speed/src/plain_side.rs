@@ -6,7 +6,7 @@ use plain::Faultless;
 use std::hint::black_box;
 
 /// Where the page has the last byte of the clock.
-const CLOCK_END: usize = 58;
+const CLOCK_END: usize = 62;
 
 pub struct Plain<const VECTORS: bool>;
 

@@ -1,4 +1,4 @@
--- The fifteen calls of document 01: 'A call is one of fifteen kinds with its numbers'.
+-- The calls: the fifteen of document 01, 'A call is one of fifteen kinds with its numbers', and kinds 16 and 17 of document 02, A3.
 use mathlib.Core.Path.{_≡_}
 use Prim.Native.Nat.{ℕ, _-_, _≤_}
 use mathlib.Core.Bool.{true, cond}
@@ -9,7 +9,7 @@ use lib.Signed.{leZ}
 use Rattle.calls.specs.declared.Call.{Call}
 use Rattle.calls.specs.declared.Call.the-variants.{Sample, RemoteDisconnect, RemoteReconnect, ManualDisconnect, ManualReconnect, SetMode}
 use Rattle.calls.specs.declared.Call.the-variants.{SetLimiter, SetClock, Event, SetAlarmFilter, SetErrorFilter, ClearAlarms, ClearErrors, ClearLog}
-use Rattle.calls.specs.declared.Call.the-variants.{Script}
+use Rattle.calls.specs.declared.Call.the-variants.{Script, SetGroups, SetProfile}
 use Rattle.calls.specs.declared.Answer.{Answer}
 use Rattle.calls.specs.declared.Answer.the-variants.{Accepted, Refused}
 use Rattle.calls.specs.declared.Letter.{Letter}
@@ -35,7 +35,7 @@ letterByte G = 103
 letterByte H = 104
 letterByte None = 0
 
--- the number of a call's kind in document 01's list
+-- the number of a call's kind in document 01's list, and of the two kinds of document 02, A3
 abbrev pub kindOf : Call → ℕ
 kindOf (Sample p) = 1
 kindOf RemoteDisconnect = 2
@@ -52,8 +52,10 @@ kindOf (ClearAlarms n) = 12
 kindOf (ClearErrors n) = 13
 kindOf (ClearLog n) = 14
 kindOf (Script n) = 15
+kindOf (SetGroups n a b c d) = 16
+kindOf (SetProfile i t a d) = 17
 
--- 'a sample or threshold is two's complement'
+-- 'a sample or threshold is two's complement', the emergency threshold too
 abbrev pub signedOf : ℕ → ℤ
 signedOf n = cond (ltb n 2147483648) (pos n) (negsuc (4294967295 - n))
 
@@ -61,7 +63,9 @@ signedOf n = cond (ltb n 2147483648) (pos n) (negsuc (4294967295 - n))
 abbrev pub commandOf : ℕ → ℕ → ℕ → ℕ → ℕ → ℕ → Command
 commandOf k n1 n2 n3 n4 n5 = record { kind = k; n1 = n1; n2 = n2; n3 = n3; n4 = n4; n5 = n5 }
 
--- the call of a command's kind and five numbers, 'unused ones ignored'; 13 is the refusal of a kind that is not 1–15
+-- the call of a command's kind and five numbers, 'unused ones ignored'; document 02, A3: 'Kind 16 sets up to eight group ids (16 bits): a count, then the ids
+-- two to a number, high half first. Kind 17 takes an id, an emergency threshold, an activation clock and a duration in samples', and 'Refusal 13 now means not
+-- 1–17'
 unfoldable pub callOf : Command → Parsed
 callOf r =
     let k = r .kind in
@@ -80,7 +84,9 @@ callOf r =
     (cond (eqb k 13) (Ok (ClearErrors (r .n1)))
     (cond (eqb k 14) (Ok (ClearLog (r .n1)))
     (cond (eqb k 15) (Ok (Script (r .n1)))
-    NoKind))))))))))))))
+    (cond (eqb k 16) (Ok (SetGroups (r .n1) (r .n2) (r .n3) (r .n4) (r .n5)))
+    (cond (eqb k 17) (Ok (SetProfile (r .n1) (signedOf (r .n2)) (r .n3) (r .n4)))
+    NoKind))))))))))))))))
 
 -- a number of 32 bits
 abbrev pub Word : ℕ → Type 0
@@ -107,6 +113,8 @@ InRange (ClearAlarms n) = Word n
 InRange (ClearErrors n) = Word n
 InRange (ClearLog n) = Word n
 InRange (Script n) = Word n
+InRange (SetGroups n a b c d) = Word n × (Word a × (Word b × (Word c × Word d)))
+InRange (SetProfile i t a d) = Word i × (Signed t × (Word a × Word d))
 
 -- of each call of a list
 abbrev pub AllInRange : List Call → Type 0

@@ -27,6 +27,10 @@ pub enum Call {
     ClearLog(u32),
     // The script's number.
     Script(u32),
+    // How many group ids, then the ids two to a number, high half first.
+    SetGroups(u32, u32, u32, u32, u32),
+    // The profile's id, its threshold in watts, the clock of its activation, its duration in samples.
+    SetProfile(u32, i32, u32, u32),
 }
 
 pub enum Answer {
@@ -128,6 +132,14 @@ pub fn read_kind(command: Command) -> Parsed
         13 => Parsed::Ok(Call::ClearErrors(command.n1)),
         14 => Parsed::Ok(Call::ClearLog(command.n1)),
         15 => Parsed::Ok(Call::Script(command.n1)),
+        16 => Parsed::Ok(Call::SetGroups(
+            command.n1,
+            command.n2,
+            command.n3,
+            command.n4,
+            command.n5,
+        )),
+        17 => Parsed::Ok(Call::SetProfile(command.n1, signed(command.n2), command.n3, command.n4)),
         _ => Parsed::NoKind,
     }
 }

@@ -8,12 +8,12 @@ use mathlib.Core.Option.{Option, none}
 use lib.Dec.{eqb}
 use Rattle.events.specs.Line.{line}
 use Rattle.history.specs.Effects.{AnyFresh, remoteDisconnect, remoteReconnect, manualDisconnect, manualReconnect, Effect, sampled, requested}
-use Rattle.history.specs.Effects.{modeSet, limitsSet, clockSet, occurred, filterSet, bitsCleared, logCleared}
-use Rattle.history.specs.Last.{History, otherwise, given, last, limitsOf, samplesSince, clockOf}
+use Rattle.history.specs.Effects.{modeSet, limitsSet, clockSet, occurred, filterSet, bitsCleared, logCleared, groupsSet, profileSet}
+use Rattle.history.specs.Last.{History, otherwise, given, last, samplesSince, clockOf}
 use Rattle.history.specs.Limiter.{Observation, setting, exceeded, sinceSetting, trailing, run}
-use Rattle.history.specs.Switch.{spell, observations, lastDecided, switchOf, exceededOf, runOf}
+use Rattle.history.specs.Switch.{spell, settingOf, seenIn, observations, lastDecided, switchOf, exceededOf, runOf}
 use Rattle.history.specs.Logs.{when, moves, owedBy}
-use Rattle.history.specs.Splits.{Each, NonePicks, Latest, seenIn, seenBetween, Arms, SeenSince, lastArmed, neverArmed}
+use Rattle.history.specs.Splits.{Each, NonePicks, Latest, seenBetween, Arms, SeenSince, lastArmed, neverArmed}
 use Rattle.history.proofs.Lists.{each-first, each-rest, each-only, latest-or-none}
 use Rattle.history.proofs.Splits.{some≢none, given-some}
 use Rattle.history.proofs.Letters.{OneOrTwo, one, two, last-decided}
@@ -35,18 +35,14 @@ unfolding last samplesSince
 armed-owes f n h = refl
 
 module _ (f : AnyFresh) (k : ℕ) where
-  -- the setting in force
-  abbrev inForce : History → Observation
-  inForce h = setting (limitsOf f h .over) (limitsOf f h .under)
-
   -- after a manual reconnect, by whether it moves the switch
   seen-reconnect : (h : History)
-      → observations f k (requested manualReconnect ∷ h) ≡ cond (moves f (requested manualReconnect) h) (inForce h ∷ []) (observations f k h)
+      → observations f k (requested manualReconnect ∷ h) ≡ cond (moves f (requested manualReconnect) h) (settingOf f h ∷ []) (observations f k h)
   unfolding observations switchOf
-  seen-reconnect h = ap (λ (x : Bool). cond x (inForce h ∷ []) (observations f k h)) (sym (reconnect-moves f h))
+  seen-reconnect h = ap (λ (x : Bool). cond x (settingOf f h ∷ []) (observations f k h)) (sym (reconnect-moves f h))
 
-  pub moved-arms : (h : History) → moves f (requested manualReconnect) h ≡ true → observations f k (requested manualReconnect ∷ h) ≡ inForce h ∷ []
-  moved-arms h m = seen-reconnect h ∙ ap (λ (x : Bool). cond x (inForce h ∷ []) (observations f k h)) m
+  pub moved-arms : (h : History) → moves f (requested manualReconnect) h ≡ true → observations f k (requested manualReconnect ∷ h) ≡ settingOf f h ∷ []
+  moved-arms h m = seen-reconnect h ∙ ap (λ (x : Bool). cond x (settingOf f h ∷ []) (observations f k h)) m
 
   pub moved-ends : (h : History) → moves f (requested manualReconnect) h ≡ true
       → (exceededOf f k (requested manualReconnect ∷ h) ≡ false) × (runOf f k (requested manualReconnect ∷ h) ≡ 0)
@@ -54,7 +50,7 @@ module _ (f : AnyFresh) (k : ℕ) where
   moved-ends h m = (ap exceeded (moved-arms h m), ap run (moved-arms h m))
 
   pub unmoved-unseen : (h : History) → moves f (requested manualReconnect) h ≡ false → observations f k (requested manualReconnect ∷ h) ≡ observations f k h
-  unmoved-unseen h m = seen-reconnect h ∙ ap (λ (x : Bool). cond x (inForce h ∷ []) (observations f k h)) m
+  unmoved-unseen h m = seen-reconnect h ∙ ap (λ (x : Bool). cond x (settingOf f h ∷ []) (observations f k h)) m
 
   -- one call that does not arm
   seen-one : (e : Effect) (h : History) → ¬ Arms f e h → observations f k (e ∷ h) ≡ seenIn f k e h ++ observations f k h
@@ -75,6 +71,8 @@ module _ (f : AnyFresh) (k : ℕ) where
   seen-one (filterSet r m) h n = refl
   seen-one (bitsCleared r m) h n = refl
   seen-one (logCleared m) h n = refl
+  seen-one (groupsSet g) h n = refl
+  seen-one (profileSet w) h n = refl
 
   seen-more : (later before : History) → Each (λ e h. ¬ Arms f e h) later before
       → observations f k (later ++ before) ≡ seenBetween f k later before ++ observations f k before
@@ -86,7 +84,7 @@ module _ (f : AnyFresh) (k : ℕ) where
       ∙ sym (append-assoc (seenIn f k e (later ++ before)) (seenBetween f k later before) (observations f k before))
 
   -- one that does
-  arms-alone : (e : Effect) (h : History) → Arms f e h → observations f k (e ∷ h) ≡ inForce h ∷ []
+  arms-alone : (e : Effect) (h : History) → Arms f e h → observations f k (e ∷ h) ≡ settingOf f h ∷ []
   arms-alone e h a = rw (a .isReconnect) (moved-arms h (rw (a .isReconnect) at (a .isMove)))
 
   -- whether a call arms
@@ -103,6 +101,8 @@ module _ (f : AnyFresh) (k : ℕ) where
   arming (filterSet r n) h = false
   arming (bitsCleared r n) h = false
   arming (logCleared n) h = false
+  arming (groupsSet g) h = false
+  arming (profileSet w) h = false
 
   arming-arms : (e : Effect) (h : History) → arming e h ≡ true → Arms f e h
   unfolding arming
@@ -118,6 +118,8 @@ module _ (f : AnyFresh) (k : ℕ) where
   arming-arms (filterSet r n) h q = absurd (false≢true q)
   arming-arms (bitsCleared r n) h q = absurd (false≢true q)
   arming-arms (logCleared n) h q = absurd (false≢true q)
+  arming-arms (groupsSet g) h q = absurd (false≢true q)
+  arming-arms (profileSet w) h q = absurd (false≢true q)
 
   abbrev picked : Effect → History → Option Bool
   picked e h = given (arming e h) true
@@ -135,7 +137,7 @@ module _ (f : AnyFresh) (k : ℕ) where
           → h ≡ later ++ (e ∷ before)
           → Arms f e before
           → Each (λ e h. ¬ Arms f e h) later (e ∷ before)
-          → observations f k h ≡ seenBetween f k later (e ∷ before) ++ (inForce before ∷ [])
+          → observations f k h ≡ seenBetween f k later (e ∷ before) ++ (settingOf f before ∷ [])
       after later e before s a n =
           ap (observations f k) s
           ∙ seen-more later (e ∷ before) n

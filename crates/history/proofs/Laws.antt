@@ -10,6 +10,9 @@ use Rattle.history.proofs.Stretches.{sample-seen, setting-seen, others-
 use Rattle.history.proofs.Openings.{openings-count-prefixes, openings-accepted, account-accepted, refused-account}
 use Rattle.history.proofs.OneMonitored.{one-monitored-value}
 use Rattle.history.proofs.Letters.{letter-row, letter-refused}
+use Rattle.history.proofs.Profiles.{groups-split, profile-split, accepted-governing, state-split, judged-governed, judged-behind, judged-waiting}
+use Rattle.history.proofs.Profiles.{judged-without, after-last, profile-kept, normal-at-once, replaced-seen, equal-unseen, equal-unlogged}
+use Rattle.history.proofs.Profiles.{waiting-unlogged, changed-run, exceeded-kept}
 use Rattle.history.proofs.Armed.{armed-owes, moved-arms, moved-ends, unmoved-unseen, seen-split}
 
 laws-of : (f : AnyFresh) → LawsOf f
@@ -51,6 +54,23 @@ laws-of f =
       refusedNothing = λ rows. refused-account rows f;
       letterRow = letter-row f;
       letterRefused = λ rows. letter-refused rows f;
+      groupsLast = groups-split;
+      profileLast = profile-split;
+      acceptedGoverns = λ rows. accepted-governing rows f;
+      profileInState = state-split f;
+      governedJudged = λ k ps h w. judged-governed f k ps h w;
+      laterJudged = λ k ps h w. judged-behind f k ps h w;
+      waitingJudged = λ k ps h w. judged-waiting f k ps h w;
+      withoutJudged = judged-without f;
+      afterLast = after-last f;
+      profileKept = profile-kept f;
+      replacedNormal = normal-at-once f;
+      replacedSeen = replaced-seen f;
+      waitingUnlogged = waiting-unlogged f;
+      changedRun = changed-run f;
+      equalUnseen = λ k ps h w p. equal-unseen f ps h w p k;
+      equalUnlogged = λ n ps h w p e. equal-unlogged f ps h w p e n;
+      exceededKept = exceeded-kept f;
     }
 
 pub laws : Laws

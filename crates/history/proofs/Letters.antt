@@ -13,8 +13,9 @@ use Rattle.events.specs.Table.{EventRow}
 use Rattle.calls.specs.declared.Letter.{Letter}
 use Rattle.calls.specs.declared.Letter.the-variants.{None}
 use Rattle.history.specs.Effects.{AnyFresh, remoteDisconnect, remoteReconnect, manualDisconnect, manualReconnect, AnyCall, Effect, sampled, requested}
-use Rattle.history.specs.Effects.{modeSet, limitsSet, clockSet, occurred, filterSet, bitsCleared, logCleared, refused, reading}
+use Rattle.history.specs.Effects.{modeSet, limitsSet, clockSet, occurred, filterSet, bitsCleared, logCleared, groupsSet, profileSet, refused, reading}
 use Rattle.history.specs.Last.{History, otherwise, given, last, modeOf}
+use Rattle.history.specs.Profile.{groupsOf}
 use Rattle.history.specs.Switch.{spell, triesDisconnect, triesReconnect, observations, lastDecided, switchOf}
 use Rattle.history.specs.Account.{acceptedCalls}
 use Rattle.history.specs.Letters.{moveLetter, letterOf, letterAfter, TableMove, rowA, rowAFromReady, rowB, rowC, rowD, rowE, rowF}
@@ -62,6 +63,8 @@ last-decided f (occurred r ∷ h) = last-decided f h
 last-decided f (filterSet r n ∷ h) = last-decided f h
 last-decided f (bitsCleared r n ∷ h) = last-decided f h
 last-decided f (logCleared n ∷ h) = last-decided f h
+last-decided f (groupsSet g ∷ h) = last-decided f h
+last-decided f (profileSet w ∷ h) = last-decided f h
 
 -- ---- the letter of a row, by where the switch is inside a spell (s) and outside one (what the last deciding call gave)
 abbrev letterBy : Effect → ℕ → ℕ → Letter
@@ -134,6 +137,8 @@ letter-rule f (occurred r) h = stays (occurred r) (switchOf f h)
 letter-rule f (filterSet s n) h = stays (filterSet s n) (switchOf f h)
 letter-rule f (bitsCleared s n) h = stays (bitsCleared s n) (switchOf f h)
 letter-rule f (logCleared n) h = stays (logCleared n) (switchOf f h)
+letter-rule f (groupsSet g) h = stays (groupsSet g) (switchOf f h)
+letter-rule f (profileSet w) h = stays (profileSet w) (switchOf f h)
 
 -- a row has one letter
 none-either : (x : Bool) → cond x None None ≡ None
@@ -161,5 +166,5 @@ letter-row f x e h = (λ q. subst (λ (y : Letter). AnswersLetter y e (switchOf 
 
 -- a refused call answers none
 pub letter-refused : (rows : List EventRow) (f : AnyFresh) (c : AnyCall) (cs : List AnyCall) (n : ℕ)
-    → reading rows (modeOf f (acceptedCalls rows f cs)) c ≡ refused n → letterAfter rows f cs c ≡ None
+    → reading rows (modeOf f (acceptedCalls rows f cs)) (groupsOf (acceptedCalls rows f cs)) c ≡ refused n → letterAfter rows f cs c ≡ None
 letter-refused rows f c cs n q = rw q

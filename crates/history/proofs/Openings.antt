@@ -8,6 +8,7 @@ use lib.ListN.{length}
 use Rattle.events.specs.Table.{EventRow}
 use Rattle.history.specs.Effects.{AnyCall, AnyFresh, Reading, refused, accepted, reading}
 use Rattle.history.specs.Last.{History, modeOf}
+use Rattle.history.specs.Profile.{groupsOf}
 use Rattle.history.specs.Switch.{switchOf}
 use Rattle.history.specs.Account.{grown, acceptedCalls, opens, openings, accountOf, accountAfter, switchAfter}
 use Rattle.history.specs.Splits.{openingPrefixes}
@@ -16,7 +17,7 @@ use Rattle.history.specs.Laws.{openingsOf}
 -- 'refused calls count for nothing'
 pub refused-nothing :
     (rows : List EventRow) (f : AnyFresh) (c : AnyCall) (cs : List AnyCall) (n : ℕ)
-    → reading rows (modeOf f (acceptedCalls rows f cs)) c ≡ refused n
+    → reading rows (modeOf f (acceptedCalls rows f cs)) (groupsOf (acceptedCalls rows f cs)) c ≡ refused n
     → acceptedCalls rows f (c ∷ cs) ≡ acceptedCalls rows f cs
 unfolding acceptedCalls
 refused-nothing rows f c cs n q = rw q
@@ -41,7 +42,7 @@ unfolding openings acceptedCalls openingsOf
 openings-accepted rows f [] = refl
 openings-accepted rows f (c ∷ cs) =
     let h = acceptedCalls rows f cs in
-    rw (openings-accepted rows f cs) (one-call f (reading rows (modeOf f h) c) h)
+    rw (openings-accepted rows f cs) (one-call f (reading rows (modeOf f h) (groupsOf h) c) h)
 
 -- 'prefixes with switch 1 whose next call gives another', counted
 pub openings-count-prefixes : (rows : List EventRow) (f : AnyFresh) (cs : List AnyCall) → openings rows f cs ≡ length (openingPrefixes rows f cs)
@@ -61,7 +62,7 @@ account-accepted rows f cs = ap (accountOf f (acceptedCalls rows f cs)) (opening
 
 pub refused-account :
     (rows : List EventRow) (f : AnyFresh) (c : AnyCall) (cs : List AnyCall) (n : ℕ)
-    → reading rows (modeOf f (acceptedCalls rows f cs)) c ≡ refused n
+    → reading rows (modeOf f (acceptedCalls rows f cs)) (groupsOf (acceptedCalls rows f cs)) c ≡ refused n
     → accountAfter rows f (c ∷ cs) ≡ accountAfter rows f cs
 refused-account rows f c cs n q =
     account-accepted rows f (c ∷ cs)

@@ -16,7 +16,7 @@ use Rattle.base.specs.Tests.{among}
 use Rattle.base.proofs.Bits.{bit-number}
 use Rattle.events.specs.Line.{Line, line}
 use Rattle.history.specs.Effects.{AnyFresh, remoteDisconnect, remoteReconnect, manualDisconnect, manualReconnect, WhichRegister, Effect, sampled}
-use Rattle.history.specs.Effects.{requested, modeSet, limitsSet, clockSet, occurred, filterSet, bitsCleared, logCleared}
+use Rattle.history.specs.Effects.{requested, modeSet, limitsSet, clockSet, occurred, filterSet, bitsCleared, logCleared, groupsSet, profileSet}
 use Rattle.history.specs.Last.{History, otherwise, given, last, modeIn, modeOf, Limits, limits, limitsIn, limitsOf, filterIn, filterOf, clockIn}
 use Rattle.history.specs.Last.{samplesSince, clockOf}
 use Rattle.history.specs.Switch.{spellEdge, spell, observations, lastDecided, decides, switchOf}
@@ -56,6 +56,8 @@ since (occurred r ∷ later) before n = since later before (each-rest n)
 since (filterSet s m ∷ later) before n = since later before (each-rest n)
 since (bitsCleared s m ∷ later) before n = since later before (each-rest n)
 since (logCleared m ∷ later) before n = since later before (each-rest n)
+since (groupsSet g ∷ later) before n = since later before (each-rest n)
+since (profileSet w ∷ later) before n = since later before (each-rest n)
 
 since-all :
     (f : AnyFresh) (later before : History)
@@ -75,6 +77,8 @@ set-only (occurred r) h t q = absurd (some≢none (sym q))
 set-only (filterSet s n) h t q = absurd (some≢none (sym q))
 set-only (bitsCleared s n) h t q = absurd (some≢none (sym q))
 set-only (logCleared n) h t q = absurd (some≢none (sym q))
+set-only (groupsSet g) h t q = absurd (some≢none (sym q))
+set-only (profileSet w) h t q = absurd (some≢none (sym q))
 
 pub clock-split : (f : AnyFresh) (h : History) (t : ℕ) → (clockOf f h ≡ t) ↔ ClockSince f h t
 unfolding last samplesSince
@@ -137,6 +141,8 @@ no-end (occurred x) h r z = refl
 no-end (filterSet s n) h r z = refl
 no-end (bitsCleared s n) h r z = refl
 no-end (logCleared n) h r z = refl
+no-end (groupsSet g) h r z = refl
+no-end (profileSet w) h r z = refl
 
 no-begin : (x : Bool) → isEdge true (given x false) ≡ false
 no-begin true = refl
@@ -155,6 +161,8 @@ begins (occurred r) h q = absurd (false≢true q)
 begins (filterSet s n) h q = absurd (false≢true q)
 begins (bitsCleared s n) h q = absurd (false≢true q)
 begins (logCleared n) h q = absurd (false≢true q)
+begins (groupsSet g) h q = absurd (false≢true q)
+begins (profileSet w) h q = absurd (false≢true q)
 
 ended : (h : History) (d e : Effect) → isEdge false (spellEdge d h) ≡ true → isEdge false (spellEdge e h) ≡ false → e ≢ d
 ended h d e t n q = absurd (false≢true (sym n ∙ ap (λ (x : Effect). isEdge false (spellEdge x h)) q ∙ t))
@@ -247,6 +255,8 @@ others-decide-nothing f (occurred x) h s m r d c = refl
 others-decide-nothing f (filterSet x n) h s m r d c = refl
 others-decide-nothing f (bitsCleared x n) h s m r d c = refl
 others-decide-nothing f (logCleared n) h s m r d c = refl
+others-decide-nothing f (groupsSet g) h s m r d c = refl
+others-decide-nothing f (profileSet w) h s m r d c = refl
 
 -- 'Calls inside a spell decide nothing'
 pub inside-decides-nothing : (f : AnyFresh) (e : Effect) (h : History) → InSpell h → e ≢ requested remoteReconnect → e ≢ modeSet 0
@@ -263,6 +273,8 @@ inside-decides-nothing f (occurred x) h i r z = refl
 inside-decides-nothing f (filterSet s n) h i r z = refl
 inside-decides-nothing f (bitsCleared s n) h i r z = refl
 inside-decides-nothing f (logCleared n) h i r z = refl
+inside-decides-nothing f (groupsSet g) h i r z = refl
+inside-decides-nothing f (profileSet w) h i r z = refl
 
 -- ---- 'A register bit stands if an event raised it unhidden and no clear of it (error bit 0: nor clock setting) came later'
 pub stands-split : (s : WhichRegister) (b : ℕ) (h : History) → (stands s b h ≡ true) ↔ Ongoing (raises s b) (λ e h. clears s b e) h
@@ -283,6 +295,8 @@ clears-not n (occurred r) c = refl
 clears-not n (filterSet s m) c = refl
 clears-not n (bitsCleared s m) c = refl
 clears-not n (logCleared m) c = ne-eqb n m (λ q. c (ap logCleared (sym q)))
+clears-not n (groupsSet g) c = refl
+clears-not n (profileSet w) c = refl
 
 clears-only : (n : ℕ) (e : Effect) → clearsLog n e ≡ true → e ≡ logCleared n
 clears-only n (sampled p) q = absurd (false≢true q)
@@ -294,6 +308,8 @@ clears-only n (occurred r) q = absurd (false≢true q)
 clears-only n (filterSet s m) q = absurd (false≢true q)
 clears-only n (bitsCleared s m) q = absurd (false≢true q)
 clears-only n (logCleared m) q = ap logCleared (sym (eqb-true n m q))
+clears-only n (groupsSet g) q = absurd (false≢true q)
+clears-only n (profileSet w) q = absurd (false≢true q)
 
 -- call 14: 'it then holds one line 255'
 pub owed-cleared : (f : AnyFresh) (n : ℕ) (before : History) → owed f n (logCleared n ∷ before) ≡ line (clockOf f (logCleared n ∷ before)) 255 ∷ []

@@ -9,50 +9,69 @@ use lib.Dec.{eqb, leb, leb·zero, leb·suc-zero, leb·suc-suc}
 use lib.IntN.{ℤ}
 use lib.ListN.{length, take, drop, replicate}
 use lib.Signed.{ltZ}
-use Rattle.history.specs.Effects.{AnyFresh, remoteDisconnect, remoteReconnect, manualDisconnect, manualReconnect, Effect, sampled, requested}
-use Rattle.history.specs.Effects.{modeSet, limitsSet, clockSet, occurred, filterSet, bitsCleared, logCleared}
-use Rattle.history.specs.Last.{History, otherwise, given, last, limitsOf, thresholdOf, numberAt}
+use Rattle.base.specs.Tests.{eqZ}
+use Rattle.history.specs.Effects.{AnyFresh, Profile, remoteDisconnect, remoteReconnect, manualDisconnect, manualReconnect, Effect, sampled, requested}
+use Rattle.history.specs.Effects.{modeSet, limitsSet, clockSet, occurred, filterSet, bitsCleared, logCleared, groupsSet, profileSet}
+use Rattle.history.specs.Last.{History, otherwise, given, last, limitsOf, numberAt}
+use Rattle.history.specs.Profile.{thresholdInForce, thresholdAt}
 use Rattle.history.specs.Limiter.{Observation, setting, judged, durationOf, duration, sinceSetting, allAre, stretchEnds, exceeded, trailing}
-use Rattle.history.specs.Switch.{switchBy, observations, lastDecided, exceededOf, runOf}
+use Rattle.history.specs.Switch.{switchBy, settingOf, changeSeen, observations, lastDecided, exceededOf, runOf}
 use Rattle.history.specs.Splits.{LatestElse, InForce, FullStretch, stretchAt, Trailing, all, broken}
 use Rattle.history.proofs.Lists.{latest-split}
 
 -- what the limiter sees in a sample and in a setting
 pub sample-seen : (f : AnyFresh) (k : ℕ) (ps : List ℤ) (h : History)
-    → observations f k (sampled ps ∷ h) ≡ judged (ltZ (thresholdOf f k h) (numberAt ps k)) ∷ observations f k h
+    → observations f k (sampled ps ∷ h)
+    ≡ changeSeen f h (thresholdAt f k ps h) (thresholdInForce f k (sampled ps ∷ h))
+    ++ (judged (ltZ (thresholdAt f k ps h) (numberAt ps k))
+    ∷ (changeSeen f h (thresholdInForce f k h) (thresholdAt f k ps h) ++ observations f k h))
 unfolding observations
-sample-seen f k ps h = refl
+sample-seen f k ps h =
+    append-assoc (changeSeen f h (thresholdAt f k ps h) (thresholdInForce f k (sampled ps ∷ h)))
+    (judged (ltZ (thresholdAt f k ps h) (numberAt ps k)) ∷ changeSeen f h (thresholdInForce f k h) (thresholdAt f k ps h))
+    (observations f k h)
 
 pub setting-seen : (f : AnyFresh) (k : ℕ) (ts : List ℤ) (o u : ℕ) (h : History)
     → observations f k (limitsSet ts o u ∷ h) ≡ setting o u ∷ observations f k h
 unfolding observations
 setting-seen f k ts o u h = refl
 
--- 'Other calls between don't break it': the limiter sees settings, samples, and manual reconnects alone
+-- 'Other calls between don't break it': the limiter sees samples, settings, manual reconnects and profiles alone
 pub others-unseen :
     (f : AnyFresh) (k : ℕ) (e : Effect) (h : History)
     → ((ps : List ℤ) → e ≢ sampled ps)
     → ((ts : List ℤ) (o u : ℕ) → e ≢ limitsSet ts o u)
     → e ≢ requested manualReconnect
+    → ((w : Profile) → e ≢ profileSet w)
     → observations f k (e ∷ h) ≡ observations f k h
 unfolding observations
-others-unseen f k (sampled ps) h s l m = absurd (s ps refl)
-others-unseen f k (requested remoteDisconnect) h s l m = refl
-others-unseen f k (requested remoteReconnect) h s l m = refl
-others-unseen f k (requested manualDisconnect) h s l m = refl
-others-unseen f k (requested manualReconnect) h s l m = absurd (m refl)
-others-unseen f k (modeSet n) h s l m = refl
-others-unseen f k (limitsSet ts o u) h s l m = absurd (l ts o u refl)
-others-unseen f k (clockSet n) h s l m = refl
-others-unseen f k (occurred r) h s l m = refl
-others-unseen f k (filterSet r n) h s l m = refl
-others-unseen f k (bitsCleared r n) h s l m = refl
-others-unseen f k (logCleared n) h s l m = refl
+others-unseen f k (sampled ps) h s l m p = absurd (s ps refl)
+others-unseen f k (requested remoteDisconnect) h s l m p = refl
+others-unseen f k (requested remoteReconnect) h s l m p = refl
+others-unseen f k (requested manualDisconnect) h s l m p = refl
+others-unseen f k (requested manualReconnect) h s l m p = absurd (m refl)
+others-unseen f k (modeSet n) h s l m p = refl
+others-unseen f k (limitsSet ts o u) h s l m p = absurd (l ts o u refl)
+others-unseen f k (clockSet n) h s l m p = refl
+others-unseen f k (occurred r) h s l m p = refl
+others-unseen f k (filterSet r n) h s l m p = refl
+others-unseen f k (bitsCleared r n) h s l m p = refl
+others-unseen f k (logCleared n) h s l m p = refl
+others-unseen f k (groupsSet g) h s l m p = refl
+others-unseen f k (profileSet w) h s l m p = absurd (p w refl)
 
 sample-more : (c : Bool) {os : List Observation} → InForce os → InForce (judged c ∷ os)
 sample-more c i =
     let split = ap (λ (os : List Observation). judged c ∷ os) (i .split) in
     record { samples = c ∷ i .samples; over = i .over; under = i .under; before = i .before; split = split }
+
+-- a change of the threshold in force is a setting
+change-more : (f : AnyFresh) (h : History) (before after : ℤ) {os : List Observation} → InForce os → InForce (changeSeen f h before after ++ os)
+change-more f h before after {os} i = go (eqZ before after)
+  where
+    go : (x : Bool) → InForce (cond x [] (settingOf f h ∷ []) ++ os)
+    go true = i
+    go false = record { samples = []; over = limitsOf f h .over; under = limitsOf f h .under; before = os; split = refl }
 
 -- a setting with nothing before it, or what was seen
 only-setting : (x : Bool) (o u : ℕ) {os : List Observation} → InForce os → InForce (cond x (setting o u ∷ []) os)
@@ -63,7 +82,10 @@ only-setting false o u i = i
 pub in-force : (f : AnyFresh) (k : ℕ) (h : History) → InForce (observations f k h)
 unfolding observations
 in-force f k [] = record { samples = []; over = f .over; under = f .under; before = []; split = refl }
-in-force f k (sampled ps ∷ h) = sample-more _ (in-force f k h)
+in-force f k (sampled ps ∷ h) =
+    subst InForce (sym (sample-seen f k ps h))
+    (change-more f h (thresholdAt f k ps h) (thresholdInForce f k (sampled ps ∷ h))
+    (sample-more _ (change-more f h (thresholdInForce f k h) (thresholdAt f k ps h) (in-force f k h))))
 in-force f k (requested remoteDisconnect ∷ h) = in-force f k h
 in-force f k (requested remoteReconnect ∷ h) = in-force f k h
 in-force f k (requested manualDisconnect ∷ h) = in-force f k h
@@ -76,6 +98,8 @@ in-force f k (occurred r ∷ h) = in-force f k h
 in-force f k (filterSet s n ∷ h) = in-force f k h
 in-force f k (bitsCleared s n ∷ h) = in-force f k h
 in-force f k (logCleared n ∷ h) = in-force f k h
+in-force f k (groupsSet g ∷ h) = in-force f k h
+in-force f k (profileSet w ∷ h) = change-more f h (thresholdInForce f k h) (thresholdInForce f k (profileSet w ∷ h)) (in-force f k h)
 
 since-is : (xs : List Bool) (o u : ℕ) (os : List Observation) → sinceSetting (map judged xs ++ (setting o u ∷ os)) ≡ xs
 unfolding sinceSetting
@@ -94,11 +118,24 @@ unfolding duration
 either-duration true b o u os e = refl
 either-duration false b o u os e = e
 
+change-duration : (f : AnyFresh) (h : History) (before after : ℤ) (b : Bool) (os : List Observation)
+    → duration b os ≡ durationOf b (limitsOf f h .over) (limitsOf f h .under)
+    → duration b (changeSeen f h before after ++ os) ≡ durationOf b (limitsOf f h .over) (limitsOf f h .under)
+unfolding duration
+change-duration f h before after b os e = go (eqZ before after)
+  where
+    go : (x : Bool) → duration b (cond x [] (settingOf f h ∷ []) ++ os) ≡ durationOf b (limitsOf f h .over) (limitsOf f h .under)
+    go true = e
+    go false = refl
+
 pub durations-last : (f : AnyFresh) (k : ℕ) (h : History) (b : Bool)
     → duration b (observations f k h) ≡ durationOf b (limitsOf f h .over) (limitsOf f h .under)
 unfolding observations duration last
 durations-last f k [] b = refl
-durations-last f k (sampled ps ∷ h) b = durations-last f k h b
+durations-last f k (sampled ps ∷ h) b =
+    ap (duration b) (sample-seen f k ps h)
+    ∙ change-duration f h (thresholdAt f k ps h) (thresholdInForce f k (sampled ps ∷ h)) b _
+    (change-duration f h (thresholdInForce f k h) (thresholdAt f k ps h) b (observations f k h) (durations-last f k h b))
 durations-last f k (requested remoteDisconnect ∷ h) b = durations-last f k h b
 durations-last f k (requested remoteReconnect ∷ h) b = durations-last f k h b
 durations-last f k (requested manualDisconnect ∷ h) b = durations-last f k h b
@@ -111,6 +148,9 @@ durations-last f k (occurred r ∷ h) b = durations-last f k h b
 durations-last f k (filterSet s n ∷ h) b = durations-last f k h b
 durations-last f k (bitsCleared s n ∷ h) b = durations-last f k h b
 durations-last f k (logCleared n ∷ h) b = durations-last f k h b
+durations-last f k (groupsSet g ∷ h) b = durations-last f k h b
+durations-last f k (profileSet w ∷ h) b =
+    change-duration f h (thresholdInForce f k h) (thresholdInForce f k (profileSet w ∷ h)) b (observations f k h) (durations-last f k h b)
 
 pub in-force-limits :
     (f : AnyFresh) (k : ℕ) (h : History) (i : InForce (observations f k h))

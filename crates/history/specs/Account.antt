@@ -9,6 +9,7 @@ use Rattle.events.specs.Line.{Line}
 use Rattle.events.specs.Table.{EventRow}
 use Rattle.history.specs.Effects.{AnyCall, AnyFresh, alarms, errors, Reading, refused, accepted, reading}
 use Rattle.history.specs.Last.{History, modeOf, limitsOf, thresholdOf, filterOf, clockOf}
+use Rattle.history.specs.Profile.{groupsOf, ProfileState, profileState}
 use Rattle.history.specs.Limiter.{monitoredValues}
 use Rattle.history.specs.Switch.{switchOf, exceededOf, runOf}
 use Rattle.history.specs.Registers.{bitsOf}
@@ -34,6 +35,8 @@ pub record AnyAccount : Type 0 where
   pub errors : ℕ
   pub errorFilter : ℕ
   pub logs : List (List Line)
+  pub groups : List ℕ
+  pub profile : ProfileState
 
 -- '.. refused calls count for nothing ..'
 abbrev pub grown : Reading → History → History
@@ -44,7 +47,7 @@ grown (accepted e) h = e ∷ h
 unfoldable pub acceptedCalls : List EventRow → AnyFresh → List AnyCall → History
 acceptedCalls rows f [] = []
 acceptedCalls rows f (c ∷ cs) =
-    grown (reading rows (modeOf f (acceptedCalls rows f cs)) c) (acceptedCalls rows f cs)
+    (let h = acceptedCalls rows f cs in grown (reading rows (modeOf f h) (groupsOf h) c) h)
 
 -- the switch after a list of calls, newest first
 abbrev pub switchAfter : List EventRow → AnyFresh → List AnyCall → ℕ
@@ -80,6 +83,8 @@ accountOf f h opened =
       errors = bitsOf errors h;
       errorFilter = filterOf errors h;
       logs = map (λ n. logOf f n h) (1 ∷ 2 ∷ 3 ∷ []);
+      groups = groupsOf h;
+      profile = profileState f h;
     }
 
 -- the account of a list of calls, newest first

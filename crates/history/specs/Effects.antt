@@ -8,6 +8,7 @@ use mathlib.Core.List.{List, [], _∷_}
 use mathlib.Core.Option.{Option, none, some}
 use lib.Dec.{eqb, leb}
 use lib.IntN.{ℤ, pos}
+use lib.ListN.{take}
 use lib.Signed.{leZ}
 use Rattle.base.specs.Tests.{within, among, every}
 use Rattle.events.specs.Line.{isLog}
@@ -29,7 +30,15 @@ pub data RequestCall : Type 0 where
 pub data WhichRegister : Type 0 where
   alarms errors : WhichRegister
 
--- the fifteen calls, those alike in one: a request (calls 2 to 5), a filter (10, 11), a clear of bits (12, 13)
+-- document 02, A3: 'Kind 17 takes an id, an emergency threshold, an activation clock and a duration in samples': the emergency profile (class 71,
+-- attributes 5 and 8). Its threshold is one for all monitored values
+pub record Profile : Type 0 where
+  pub id : ℕ
+  pub threshold : ℤ
+  pub activation : ℕ
+  pub duration : ℕ
+
+-- the fifteen calls and document 02's two (A3), those alike in one: a request (calls 2 to 5), a filter (10, 11), a clear of bits (12, 13)
 pub data AnyCall : Type 0 where
   sample : List ℤ → AnyCall
   request : RequestCall → AnyCall
@@ -41,6 +50,8 @@ pub data AnyCall : Type 0 where
   clearBits : WhichRegister → ℕ → AnyCall
   clearLog : ℕ → AnyCall
   script : ℕ → AnyCall
+  setGroups : ℕ → List ℕ → AnyCall
+  setProfile : Profile → AnyCall
 
 -- an accepted call; 'Scripts are the calls they name'
 pub data Effect : Type 0 where
@@ -53,6 +64,8 @@ pub data Effect : Type 0 where
   filterSet : WhichRegister → ℕ → Effect
   bitsCleared : WhichRegister → ℕ → Effect
   logCleared : ℕ → Effect
+  groupsSet : List ℕ → Effect
+  profileSet : Profile → Effect
 
 -- a call as it is answered: with a refusal's number, or accepted
 pub data Reading : Type 0 where
@@ -80,15 +93,29 @@ abbrev pub readEvent : Option EventRow → Reading
 readEvent none = refused 6
 readEvent (some r) = accepted (occurred r)
 
--- '.. a call's refusal follows from its numbers and the mode last accepted' (and the event table)
-unfoldable pub reading : List EventRow → ℕ → AnyCall → Reading
-reading rows m (sample ps) = accepted (sampled ps)
-reading rows m (request q) = readRequest m q
-reading rows m (setMode n) = cond (leb n 6) (accepted (modeSet n)) (refused 1)
-reading rows m (setLimiter ts o u) = readLimits ts o u
-reading rows m (setClock n) = accepted (clockSet n)
-reading rows m (event c) = readEvent (lookup rows c)
-reading rows m (setFilter s n) = accepted (filterSet s n)
-reading rows m (clearBits s n) = accepted (bitsCleared s n)
-reading rows m (clearLog n) = cond (isLog n) (accepted (logCleared n)) (refused 7)
-reading rows m (script n) = cond (eqb n 1) (readRequest m remoteDisconnect) (cond (eqb n 2) (readRequest m remoteReconnect) (refused 3))
+-- document 02, A3: 'Kind 16 sets up to eight group ids (16 bits): a count, then the ids ..'; '14, more than eight ids (kind 16)'
+abbrev pub readGroups : ℕ → List ℕ → Reading
+readGroups n ids = cond (leb n 8) (accepted (groupsSet (take n ids))) (refused 14)
+
+-- document 02, A3: '15, id not in the group (kind 17); 16, duration outside 1 to 604,800, or threshold negative, after 15'
+abbrev pub readProfile : List ℕ → Profile → Reading
+readProfile groups w =
+    cond (among groups (w .id))
+    (cond (within 1 604800 (w .duration) && leZ (pos 0) (w .threshold)) (accepted (profileSet w)) (refused 16))
+    (refused 15)
+
+-- '.. a call's refusal follows from its numbers and the mode last accepted' (and the event table); document 02, A3: '.. and 15 follows from the groups
+-- last accepted'
+unfoldable pub reading : List EventRow → ℕ → List ℕ → AnyCall → Reading
+reading rows m groups (sample ps) = accepted (sampled ps)
+reading rows m groups (request q) = readRequest m q
+reading rows m groups (setMode n) = cond (leb n 6) (accepted (modeSet n)) (refused 1)
+reading rows m groups (setLimiter ts o u) = readLimits ts o u
+reading rows m groups (setClock n) = accepted (clockSet n)
+reading rows m groups (event c) = readEvent (lookup rows c)
+reading rows m groups (setFilter s n) = accepted (filterSet s n)
+reading rows m groups (clearBits s n) = accepted (bitsCleared s n)
+reading rows m groups (clearLog n) = cond (isLog n) (accepted (logCleared n)) (refused 7)
+reading rows m groups (script n) = cond (eqb n 1) (readRequest m remoteDisconnect) (cond (eqb n 2) (readRequest m remoteReconnect) (refused 3))
+reading rows m groups (setGroups n ids) = readGroups n ids
+reading rows m groups (setProfile w) = readProfile groups w

@@ -13,6 +13,7 @@ use Rattle.calls.specs.declared.Call.{Call}
 use Rattle.calls.specs.declared.Call.the-variants.{Sample, RemoteDisconnect, ManualReconnect, SetMode, SetLimiter, Event, Script}
 use Rattle.history.specs.Effects.{Reading, refused, accepted, reading}
 use Rattle.history.specs.Last.{last, samplesSince}
+use Rattle.history.specs.Profile.{clocksSince, fromReached}
 use Rattle.history.specs.Limiter.{duration, sinceSetting, allAre, exceeded, trailing}
 use Rattle.history.specs.Switch.{spell, observations, lastDecided, switchOf}
 use Rattle.history.specs.Registers.{stands}
@@ -26,7 +27,7 @@ fresh m t o u c = record { mode = m; threshold = pos t; over = o; under = u; clo
 
 -- the account by the built-in table; to unfold it is to unfold what it is made of
 unfoldable pub builtInAccount : Fresh → List Call → Account
-unfolding every any numbersFrom gathered among bit number newest builtIn lookup reading last samplesSince duration sinceSetting allAre exceeded trailing
+unfolding every any numbersFrom gathered among bit number newest builtIn lookup reading last samplesSince clocksSince fromReached duration sinceSetting allAre exceeded trailing
     observations lastDecided spell switchOf stands owed acceptedCalls openings
 builtInAccount f calls = account builtIn f calls
 
@@ -35,9 +36,9 @@ abbrev pub refusal : Reading → ℕ
 refusal (refused n) = n
 refusal (accepted e) = 0
 
--- the refusal of a call by the mode last accepted before it
+-- the refusal of a call by the mode and the groups last accepted before it
 abbrev pub answer : Fresh → List Call → Call → ℕ
-answer f calls c = refusal (reading builtIn (builtInAccount f calls .mode) (asCall c))
+answer f calls c = let a = builtInAccount f calls in refusal (reading builtIn (a .mode) (a .groups) (asCall c))
 
 -- the codes of lines
 abbrev pub codes : List Line → List ℕ

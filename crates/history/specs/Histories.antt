@@ -13,12 +13,14 @@ use Rattle.calls.specs.declared.Letter.{Letter}
 use Rattle.calls.specs.declared.Letter.the-variants.{A, B, C, D, E, F, G, H, None}
 use Rattle.calls.specs.declared.Call.{Call}
 use Rattle.calls.specs.declared.Call.the-variants.{Sample, RemoteDisconnect, RemoteReconnect, ManualDisconnect, ManualReconnect, SetMode, SetLimiter}
-use Rattle.calls.specs.declared.Call.the-variants.{SetClock, Event, SetAlarmFilter, SetErrorFilter, ClearAlarms, ClearErrors, ClearLog, Script}
+use Rattle.calls.specs.declared.Call.the-variants.{SetClock, Event, SetAlarmFilter, SetErrorFilter, ClearAlarms, ClearErrors, ClearLog, Script, SetGroups}
+use Rattle.calls.specs.declared.Call.the-variants.{SetProfile}
 use Rattle.history.specs.Effects.{remoteDisconnect, manualDisconnect, manualReconnect, AnyCall, sample, request, setMode, setLimiter, sampled}
 use Rattle.history.specs.Effects.{requested, reading}
+use Rattle.history.specs.Profile.{ProfileState, noProfile, waiting, active}
 use Rattle.history.specs.Switch.{decides}
 use Rattle.history.specs.Account.{AnyAccount, accountOf, anyAccount}
-use Rattle.history.specs.OnePhase.{Fresh, asFresh, letter}
+use Rattle.history.specs.OnePhase.{Fresh, asFresh, profileWith, letter}
 use Rattle.history.specs.Examples.{fresh, builtInAccount, refusal, answer, codes}
 
 -- what a call is answered in modes 0 to 6
@@ -60,6 +62,26 @@ registerValues calls = let a = builtInAccount (fresh 1 3 1 1 1000) calls in (a .
 -- the three logs
 abbrev pub logLines : Fresh → List Call → List (List Line)
 logLines f calls = builtInAccount f calls .logs
+
+-- document 02, A3: groups 1 and 7
+abbrev pub groups : Call
+groups = SetGroups 2 65543 0 0 0
+
+-- an emergency profile of group 1: threshold, activation, duration
+abbrev pub profile : ℕ → ℕ → ℕ → Call
+profile t a d = SetProfile 1 (pos t) a d
+
+-- a sample of 4 watts
+abbrev pub fourWatts : Call
+fourWatts = Sample (pos 4)
+
+-- the disconnect log, in mode 5, with this threshold and Over and Under, from clock 1000
+abbrev pub disconnectLog : ℕ → ℕ → List Call → List Line
+disconnectLog t d calls = getD (builtInAccount (fresh 5 t d d 1000) (groups ∷ calls) .logs) 2 []
+
+-- the profile and its state after such a list
+abbrev pub profileAfter : ℕ → ℕ → List Call → ProfileState
+profileAfter t d calls = builtInAccount (fresh 5 t d d 1000) (groups ∷ calls) .profile
 
 -- the account of a meter with two monitored values: mode 5, thresholds 3 and 5, Over and Under, clock 1000
 abbrev pub twoValues : ℕ → ℕ → List AnyCall → AnyAccount
@@ -244,7 +266,8 @@ pub record Histories : Type 0 where
       ≡ (line 1000 255 ∷ line 1001 2 ∷ []) ∷ (line 1000 41 ∷ []) ∷ (line 1001 255 ∷ []) ∷ []
   -- 'refused calls count for nothing', 'A list may be empty'
   pub refused-counts-nothing :
-      builtInAccount (fresh 3 3 1 1 1000) (SetMode 7 ∷ ManualDisconnect ∷ SetLimiter (negsuc 0) 1 1 ∷ Event 3 ∷ ClearLog 0 ∷ Script 3 ∷ [])
+      builtInAccount (fresh 3 3 1 1 1000) (SetMode 7 ∷ ManualDisconnect ∷ SetLimiter (negsuc 0) 1 1 ∷ Event 3 ∷ ClearLog 0 ∷ Script 3
+      ∷ SetGroups 9 65536 0 0 0 ∷ SetProfile 0 (pos 0) 0 1 ∷ [])
       ≡ builtInAccount (fresh 3 3 1 1 1000) []
   pub empty :
       builtInAccount (fresh 3 70 8 9 1000) []
@@ -263,6 +286,8 @@ pub record Histories : Type 0 where
         errors = 0;
         errorFilter = 0;
         logs = [] ∷ [] ∷ [] ∷ [];
+        groups = [];
+        profile = noProfile;
       }
   -- document 02: '.. the account holds a stretch and run for each ..' (its 'line' is a monitored value, here one of two), each by its own threshold
   pub several-stretches :
@@ -279,7 +304,7 @@ pub record Histories : Type 0 where
       ∷ []
   -- document 02: 'Fresh and call 7 take four thresholds, 4 if one is negative ..'; here two
   pub several-thresholds :
-      map (λ ts. refusal (reading builtIn 5 (setLimiter ts 1 1)))
+      map (λ ts. refusal (reading builtIn 5 [] (setLimiter ts 1 1)))
       ((pos 0 ∷ pos 0 ∷ []) ∷ (pos 0 ∷ negsuc 0 ∷ []) ∷ (negsuc 0 ∷ pos 0 ∷ []) ∷ (negsuc 0 ∷ negsuc 0 ∷ []) ∷ [])
       ≡ 0 ∷ 4 ∷ 4 ∷ 4 ∷ []
   -- document 02: '.. call 7 sets each Run 0 and logs one 67'
@@ -297,3 +322,84 @@ pub record Histories : Type 0 where
         line 1002 65 ∷ line 1002 65 ∷ line 1002 64 ∷ line 1003 61 ∷ line 1005 65 ∷ line 1005 64 ∷ [],
       )
       ∷ []
+  -- document 02, A3: '14, more than eight ids'; judged whole; '.. two to a number, high half first', those past the count ignored, order and doubles kept
+  pub groups-taken :
+      map (λ n. answer (fresh 5 9 2 2 1000) [] (SetGroups n 1 2 3 4)) (0 ∷ 8 ∷ 9 ∷ 256 ∷ 65544 ∷ 4294967295 ∷ []) ≡ 0 ∷ 0 ∷ 14 ∷ 14 ∷ 14 ∷ 14 ∷ []
+  pub groups-kept :
+      map (λ c. builtInAccount (fresh 5 9 2 2 1000) (c ∷ []) .groups)
+      (SetGroups 8 65538 196612 327686 458760 ∷ SetGroups 3 458753 458759 9 9 ∷ SetGroups 0 1 2 3 4 ∷ [])
+      ≡ (1 ∷ 2 ∷ 3 ∷ 4 ∷ 5 ∷ 6 ∷ 7 ∷ 8 ∷ []) ∷ (7 ∷ 1 ∷ 7 ∷ []) ∷ [] ∷ []
+  -- document 02, A3: '15, id not in the group ..; 16, duration outside 1 to 604,800, or threshold negative, after 15': the id whole, and 0 with no groups
+  pub profile-taken :
+      map (answer (fresh 5 9 2 2 1000) (groups ∷ []))
+      (SetProfile 7 (pos 0) 0 604800 ∷ SetProfile 2 (pos 0) 0 0 ∷ SetProfile 65537 (pos 0) 0 1 ∷ SetProfile 0 (pos 0) 0 1 ∷ SetProfile 1 (pos 0) 0 0
+      ∷ SetProfile 1 (pos 0) 0 604801 ∷ SetProfile 1 (pos 0) 0 4294967295 ∷ SetProfile 1 (negsuc 0) 0 1 ∷ SetProfile 1 (pos 2147483647) 0 1
+      ∷ SetProfile 2 (negsuc 0) 0 1 ∷ [])
+      ≡ 0 ∷ 15 ∷ 15 ∷ 15 ∷ 16 ∷ 16 ∷ 16 ∷ 16 ∷ 0 ∷ 15 ∷ []
+  pub profile-without-groups : answer (fresh 5 9 2 2 1000) [] (SetProfile 0 (pos 0) 0 1) ≡ 15
+  -- document 02, A3: '.. 15 follows from the groups last accepted': group 1 alone after the second kind 16, and as before after one that is refused
+  pub groups-last :
+      map (λ c. answer (fresh 5 9 2 2 1000) (groups ∷ c ∷ []) (SetProfile 7 (pos 0) 0 1)) (SetGroups 1 65536 0 0 0 ∷ SetGroups 9 65536 0 0 0 ∷ []) ≡ 15 ∷ 0 ∷ []
+  -- document 02, A3: a sample that begins and ends a profile: 67 '.. at the start before the sample is judged ..', over firing, g, 67 '.. at the end ..'
+  pub four-lines : disconnectLog 9 1 (profile 3 0 1 ∷ fourWatts ∷ []) ≡ line 1001 67 ∷ line 1001 65 ∷ line 1001 64 ∷ line 1001 67 ∷ []
+  pub four-lines-under :
+      disconnectLog 3 1 (fourWatts ∷ profile 9 0 1 ∷ fourWatts ∷ [])
+      ≡ line 1001 65 ∷ line 1001 64 ∷ line 1002 67 ∷ line 1002 66 ∷ line 1002 69 ∷ line 1002 67 ∷ []
+  -- document 02, A3: '.. after the last governed sample the state is 0 and the account has no profile', and Exceeded stays
+  pub profile-gone : profileAfter 9 1 (profile 3 0 1 ∷ fourWatts ∷ []) ≡ noProfile
+  pub exceeded-outlives : limiterValues (fresh 5 9 1 1 1000) (groups ∷ profile 3 0 1 ∷ fourWatts ∷ []) ≡ (1, 1, true, 0)
+  -- document 02, A3: '.. or at a kind 17 that replaces an active profile': back to the normal threshold, and the next start is another change
+  pub over-active :
+      disconnectLog 9 3 (profile 3 0 5 ∷ fourWatts ∷ profile 3 0 5 ∷ fourWatts ∷ []) ≡ line 1001 67 ∷ line 1001 67 ∷ line 1002 67 ∷ []
+  pub over-active-state :
+      map (profileAfter 9 3) ((profile 3 0 5 ∷ fourWatts ∷ profile 2 0 6 ∷ []) ∷ (profile 3 0 5 ∷ fourWatts ∷ profile 2 0 6 ∷ fourWatts ∷ []) ∷ [])
+      ≡ waiting (profileWith 1 (pos 2) 0 6) ∷ active (profileWith 1 (pos 2) 0 6) 5 ∷ []
+  -- document 02, A3: with the normal threshold as its own there is no change, and the stretch runs on
+  pub over-active-equal :
+      disconnectLog 3 3 (profile 3 0 5 ∷ fourWatts ∷ profile 8 4294967295 5 ∷ fourWatts ∷ fourWatts ∷ []) ≡ line 1003 65 ∷ line 1003 64 ∷ []
+  -- document 02, A3: 'It replaces any earlier profile and waits': over a waiting one never a change
+  pub over-waiting :
+      disconnectLog 9 3 (profile 3 2000 5 ∷ fourWatts ∷ profile 1 2000 7 ∷ fourWatts ∷ []) ≡ []
+  pub over-waiting-state :
+      profileAfter 9 3 (profile 3 2000 5 ∷ fourWatts ∷ profile 1 2000 7 ∷ fourWatts ∷ []) ≡ waiting (profileWith 1 (pos 1) 2000 7)
+  -- document 02, A3: 'Call 7 sets the normal threshold and keeps its own Run 0 and single 67': the end compares with the normal threshold of that moment
+  pub limiter-during :
+      map (disconnectLog 9 3)
+      ((profile 3 0 2 ∷ fourWatts ∷ SetLimiter (pos 3) 3 3 ∷ fourWatts ∷ fourWatts ∷ fourWatts ∷ [])
+      ∷ (profile 9 0 2 ∷ fourWatts ∷ SetLimiter (pos 5) 3 3 ∷ fourWatts ∷ [])
+      ∷ [])
+      ≡ (line 1001 67 ∷ line 1001 67 ∷ line 1004 65 ∷ line 1004 64 ∷ []) ∷ (line 1001 67 ∷ line 1002 67 ∷ []) ∷ []
+  -- document 02, A3: 'Whenever the threshold in force becomes another number ..': with equal thresholds a stretch runs on across start and end
+  pub equal-thresholds : disconnectLog 3 3 (fourWatts ∷ profile 3 0 1 ∷ fourWatts ∷ fourWatts ∷ []) ≡ line 1003 65 ∷ line 1003 64 ∷ []
+  -- document 02, A3: the starting sample belongs to the new stretch, the last governed one does not to the next
+  pub change-places :
+      limiterValues (fresh 6 1 3 1 0) (groups ∷ profile 3 0 6 ∷ Sample (pos 9) ∷ []) ∷ limiterValues (fresh 0 2 4 2 0) (groups ∷ profile 3 0 1 ∷ fourWatts ∷ []) ∷ []
+      ≡ (3, 1, false, 1) ∷ (4, 2, false, 0) ∷ []
+  -- document 02, A3: '.. the first sample whose advanced clock has reached activation ..': activation past, at the sample's clock, after it; a held clock
+  pub activations :
+      map (λ a. profileAfter 9 2 (profile 3 a 2 ∷ fourWatts ∷ [])) (0 ∷ 1001 ∷ 1002 ∷ [])
+      ≡ active (profileWith 1 (pos 3) 0 2) 1 ∷ active (profileWith 1 (pos 3) 1001 2) 1 ∷ waiting (profileWith 1 (pos 3) 1002 2) ∷ []
+  pub held-activation :
+      builtInAccount (fresh 5 9 2 2 4294967295) (groups ∷ profile 3 4294967295 2 ∷ fourWatts ∷ []) .profile ≡ active (profileWith 1 (pos 3) 4294967295 2) 1
+  pub held-end : builtInAccount (fresh 5 9 2 2 4294967295) (groups ∷ profile 3 4294967295 2 ∷ fourWatts ∷ fourWatts ∷ []) .profile ≡ noProfile
+  -- document 02, A3: 'It goes active with the first sample ..': no clock setting starts it
+  pub clock-forward :
+      map (profileAfter 9 2) ((profile 3 2000 4 ∷ SetClock 3000 ∷ []) ∷ (profile 3 2000 4 ∷ SetClock 3000 ∷ fourWatts ∷ []) ∷ [])
+      ≡ waiting (profileWith 1 (pos 3) 2000 4) ∷ active (profileWith 1 (pos 3) 2000 4) 3 ∷ []
+  -- document 02, A3: '.. setting the clock back or new groups don't end it'; set back, the clock delays one that waits
+  pub clock-back :
+      map (profileAfter 9 2)
+      ((profile 3 1002 4 ∷ fourWatts ∷ SetClock 500 ∷ fourWatts ∷ []) ∷ (profile 3 1002 4 ∷ fourWatts ∷ fourWatts ∷ SetClock 500 ∷ fourWatts ∷ []) ∷ [])
+      ≡ waiting (profileWith 1 (pos 3) 1002 4) ∷ active (profileWith 1 (pos 3) 1002 4) 2 ∷ []
+  pub groups-gone :
+      map (profileAfter 9 2)
+      ((profile 3 1002 2 ∷ SetGroups 0 0 0 0 0 ∷ fourWatts ∷ fourWatts ∷ []) ∷ (profile 3 0 3 ∷ fourWatts ∷ SetGroups 0 0 0 0 0 ∷ fourWatts ∷ []) ∷ [])
+      ≡ active (profileWith 1 (pos 3) 1002 2) 1 ∷ active (profileWith 1 (pos 3) 0 3) 1 ∷ []
+  -- document 02, A3: a kind 17 that is refused leaves the one that is active
+  pub refused-over-active :
+      profileAfter 9 2 (profile 3 0 3 ∷ fourWatts ∷ SetProfile 2 (pos 0) 0 1 ∷ SetProfile 1 (pos 0) 0 0 ∷ []) ≡ active (profileWith 1 (pos 3) 0 3) 2
+  -- document 02, A5 with A3: the key arms the limiter and leaves the profile
+  pub key-during :
+      codes (disconnectLog 9 2 (profile 3 0 6 ∷ fourWatts ∷ fourWatts ∷ ManualReconnect ∷ fourWatts ∷ fourWatts ∷ [])) ≡ 67 ∷ 65 ∷ 64 ∷ 61 ∷ 65 ∷ 64 ∷ []
+  pub key-leaves-profile :
+      profileAfter 9 2 (profile 3 0 6 ∷ fourWatts ∷ fourWatts ∷ ManualReconnect ∷ fourWatts ∷ fourWatts ∷ []) ≡ active (profileWith 1 (pos 3) 0 6) 2

@@ -8,7 +8,7 @@ use lib.IntN.{ℤ, pos}
 use lib.ListN.{getD}
 use Rattle.base.specs.Numbers.{held}
 use Rattle.history.specs.Effects.{AnyFresh, WhichRegister, alarms, errors, Effect, sampled, requested, modeSet, limitsSet, clockSet, occurred}
-use Rattle.history.specs.Effects.{filterSet, bitsCleared, logCleared}
+use Rattle.history.specs.Effects.{filterSet, bitsCleared, logCleared, groupsSet, profileSet}
 
 -- accepted calls, the newest first
 abbrev pub History : Type 0
@@ -40,6 +40,8 @@ modeIn (occurred r) h = none
 modeIn (filterSet s n) h = none
 modeIn (bitsCleared s n) h = none
 modeIn (logCleared n) h = none
+modeIn (groupsSet g) h = none
+modeIn (profileSet w) h = none
 
 -- 'Mode ..: last accepted, else fresh ..'
 abbrev pub modeOf : AnyFresh → History → ℕ
@@ -66,6 +68,8 @@ limitsIn (occurred r) h = none
 limitsIn (filterSet s n) h = none
 limitsIn (bitsCleared s n) h = none
 limitsIn (logCleared n) h = none
+limitsIn (groupsSet g) h = none
+limitsIn (profileSet w) h = none
 
 -- '.. limiter settings ..: last accepted, else fresh ..'
 abbrev pub limitsOf : AnyFresh → History → Limits
@@ -97,6 +101,8 @@ filterIn s (occurred r) h = none
 filterIn s (filterSet s′ n) h = given (sameRegister s s′) n
 filterIn s (bitsCleared s′ n) h = none
 filterIn s (logCleared n) h = none
+filterIn s (groupsSet g) h = none
+filterIn s (profileSet w) h = none
 
 -- '.. filters: last accepted, else .. (filters 0)'
 abbrev pub filterOf : WhichRegister → History → ℕ
@@ -113,6 +119,8 @@ clockIn (occurred r) h = none
 clockIn (filterSet s n) h = none
 clockIn (bitsCleared s n) h = none
 clockIn (logCleared n) h = none
+clockIn (groupsSet g) h = none
+clockIn (profileSet w) h = none
 
 -- '.. plus samples since ..'
 unfoldable pub samplesSince : History → ℕ
@@ -126,6 +134,8 @@ samplesSince (occurred r ∷ h) = samplesSince h
 samplesSince (filterSet s n ∷ h) = samplesSince h
 samplesSince (bitsCleared s n ∷ h) = samplesSince h
 samplesSince (logCleared n ∷ h) = samplesSince h
+samplesSince (groupsSet g ∷ h) = samplesSince h
+samplesSince (profileSet w ∷ h) = samplesSince h
 
 -- 'Clock: last set, else fresh, plus samples since, held as above'
 abbrev pub clockOf : AnyFresh → History → ℕ

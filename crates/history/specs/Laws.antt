@@ -1,31 +1,32 @@
 -- What holds of the account: its parts that speak of a last or latest call are the sentences of document 01, as splits of the history; the others are
 -- plain in their definitions.
 -- Lists of calls are the newest first.
-use Prim.Native.Nat.{ℕ, suc, _<_}
+use Prim.Native.Nat.{ℕ, suc, _≤_, _<_}
 use mathlib.Core.Path.{_≡_}
 use mathlib.Core.Bool.{Bool, true, false, not, _&&_, cond}
 use mathlib.Core.List.{List, [], _∷_, _++_}
 use mathlib.Core.Logic.{_↔_, _≢_}
-use mathlib.Core.Option.{none, some}
+use mathlib.Core.Option.{Option, none, some}
 use lib.Dec.{eqb}
 use lib.IntN.{ℤ}
 use lib.Signed.{ltZ}
 use lib.ListN.{length}
 use Rattle.base.specs.Bits.{bit}
-use Rattle.base.specs.Tests.{among}
+use Rattle.base.specs.Tests.{among, eqZ, gathered}
 use Rattle.events.specs.Line.{Line, line}
 use Rattle.events.specs.Table.{EventRow}
 use Rattle.calls.specs.declared.Letter.{Letter}
 use Rattle.calls.specs.declared.Letter.the-variants.{None}
 use Rattle.history.specs.Effects.{AnyFresh, AnyCall, remoteReconnect, manualDisconnect, manualReconnect, WhichRegister, Effect, sampled, requested}
-use Rattle.history.specs.Effects.{modeSet, limitsSet, refused, reading}
+use Rattle.history.specs.Effects.{modeSet, limitsSet, profileSet, Profile, refused, reading}
 use Rattle.history.specs.Last.{History, given, modeIn, modeOf, Limits, limits, limitsIn, limitsOf, thresholdOf, numberAt, filterIn, filterOf, clockOf}
-use Rattle.history.specs.Limiter.{Observation, setting, judged, stretchEnds, firesOver, firesUnder}
-use Rattle.history.specs.Switch.{spell, observations, decides, switchOf, exceededOf, runOf}
+use Rattle.history.specs.Profile.{groupsIn, groupsOf, profileIn, profileOf, ProfileState, noProfile, waiting, profileState, thresholdInForce, thresholdAt}
+use Rattle.history.specs.Limiter.{Observation, setting, judged, stretchEnds, exceeded, run, firesOver, firesUnder, monitoredValues}
+use Rattle.history.specs.Switch.{spell, settingOf, changeSeen, observations, decides, switchOf, exceededOf, runOf}
 use Rattle.history.specs.Registers.{raises, clears, stands, bitsOf}
-use Rattle.history.specs.Logs.{when, moves, owedBy, owed}
+use Rattle.history.specs.Logs.{when, moves, localCode, firingLines, owedBy, owed}
 use Rattle.history.specs.Splits.{LatestElse, Ongoing, ClockSince, InSpell, OwedSince, openingPrefixes, SeenSince, InForce, FullStretch}
-use Rattle.history.specs.Splits.{stretchAt, Trailing}
+use Rattle.history.specs.Splits.{stretchAt, Trailing, NoneSet, Waits, Begun, InState}
 use Rattle.history.specs.Account.{acceptedCalls, opens, openings, accountOf, accountAfter}
 use Rattle.history.specs.Letters.{letterOf, letterAfter, AnswersLetter}
 
@@ -45,6 +46,10 @@ underFiring f ps h = firesUnder (observations f 0 h) (observations f 0 (sampled 
 -- a line that bears 'the clock after the call'
 abbrev pub lineAfter : AnyFresh → List ℤ → History → ℕ → Line
 lineAfter f ps h c = line (clockOf f (sampled ps ∷ h)) c
+
+-- the profile last set governs one sample at least
+abbrev pub Governs : History → Type 0
+Governs h = (w : Profile) → profileOf h ≡ some w → 1 ≤ w .duration
 
 -- the sentences of 'The history account', of a fresh meter's account
 pub record LawsOf (f : AnyFresh) : Type 0 where
@@ -135,10 +140,14 @@ pub record LawsOf (f : AnyFresh) : Type 0 where
   pub limitsInForce :
       (k : ℕ) (h : History) (i : InForce (observations f k h))
       → (i .over ≡ limitsOf f h .over) × (i .under ≡ limitsOf f h .under)
-  -- '.. by the settings in force at that sample ..': a sample is over if its power is above the threshold last accepted before it
+  -- '.. by the settings in force at that sample ..': a sample is over if its power is above the threshold in force at it; document 02, A3: 'A threshold
+  -- change acts in the account as a limiter setting at that place', before the sample is judged and after it
   pub sampleSeen :
       (k : ℕ) (ps : List ℤ) (h : History)
-      → observations f k (sampled ps ∷ h) ≡ judged (ltZ (thresholdOf f k h) (numberAt ps k)) ∷ observations f k h
+      → observations f k (sampled ps ∷ h)
+      ≡ changeSeen f h (thresholdAt f k ps h) (thresholdInForce f k (sampled ps ∷ h))
+      ++ (judged (ltZ (thresholdAt f k ps h) (numberAt ps k))
+      ∷ (changeSeen f h (thresholdInForce f k h) (thresholdAt f k ps h) ++ observations f k h))
   -- 'A limiter setting is .. an accepted call 7'
   pub settingSeen :
       (k : ℕ) (ts : List ℤ) (o u : ℕ) (h : History)
@@ -148,7 +157,7 @@ pub record LawsOf (f : AnyFresh) : Type 0 where
   pub movedArms :
       (k : ℕ) (h : History)
       → moves f (requested manualReconnect) h ≡ true
-      → observations f k (requested manualReconnect ∷ h) ≡ setting (limitsOf f h .over) (limitsOf f h .under) ∷ []
+      → observations f k (requested manualReconnect ∷ h) ≡ settingOf f h ∷ []
   -- document 02, A5: '.. also ends Exceeded and sets Run 0 ..', of each monitored value
   pub movedEnds :
       (k : ℕ) (h : History)
@@ -174,6 +183,7 @@ pub record LawsOf (f : AnyFresh) : Type 0 where
       → ((ps : List ℤ) → e ≢ sampled ps)
       → ((ts : List ℤ) (o u : ℕ) → e ≢ limitsSet ts o u)
       → e ≢ requested manualReconnect
+      → ((w : Profile) → e ≢ profileSet w)
       → observations f k (e ∷ h) ≡ observations f k h
   -- 'A full over stretch ends at a sample if ..; a full under stretch likewise ..'
   pub fullStretch :
@@ -207,7 +217,7 @@ pub record LawsOf (f : AnyFresh) : Type 0 where
   -- '.. refused calls count for nothing ..': a refused call leaves the account as it was
   pub refusedNothing :
       (rows : List EventRow) (c : AnyCall) (cs : List AnyCall) (n : ℕ)
-      → reading rows (modeOf f (acceptedCalls rows f cs)) c ≡ refused n
+      → reading rows (modeOf f (acceptedCalls rows f cs)) (groupsOf (acceptedCalls rows f cs)) c ≡ refused n
       → accountAfter rows f (c ∷ cs) ≡ accountAfter rows f cs
   -- document 02, A2: 'The switch rule now answers a to h or none, b from 1 and c from 2 ..': an accepted call answers the letter of the row by which the
   -- switch went, and none where it stays or mode 0 is accepted
@@ -217,8 +227,98 @@ pub record LawsOf (f : AnyFresh) : Type 0 where
   -- document 02, A2: '.. and so does a call that is refused ..'
   pub letterRefused :
       (rows : List EventRow) (call : AnyCall) (calls : List AnyCall) (n : ℕ)
-      → reading rows (modeOf f (acceptedCalls rows f calls)) call ≡ refused n
+      → reading rows (modeOf f (acceptedCalls rows f calls)) (groupsOf (acceptedCalls rows f calls)) call ≡ refused n
       → letterAfter rows f calls call ≡ None
+  -- document 02, A3: '.. the groups last accepted', else none
+  pub groupsLast :
+      (h : History) (g : List ℕ)
+      → (groupsOf h ≡ g) ↔ LatestElse groupsIn [] h g
+  -- document 02, A3: 'It replaces any earlier profile ..'
+  pub profileLast :
+      (h : History) (o : Option Profile)
+      → (profileOf h ≡ o) ↔ LatestElse profileIn none h o
+  -- document 02, A3: '16, duration outside 1 to 604,800 ..': of a list's accepted calls, the profile last set governs one sample at least
+  pub acceptedGoverns :
+      (rows : List EventRow) (cs : List AnyCall)
+      → Governs (acceptedCalls rows f cs)
+  -- document 02, A3: '.. and waits. It goes active with the first sample whose advanced clock has reached activation, and governs that many samples, that
+  -- one included ..', '.. after the last governed sample .. the account has no profile'
+  pub profileInState :
+      (h : History) (x : ProfileState)
+      → Governs h
+      → (profileState f h ≡ x) ↔ InState f h x
+  -- document 02, A3: '.. and governs that many samples, that one included ..': the first to the last of them are judged by the emergency threshold ..
+  pub governedJudged :
+      (k : ℕ) (ps : List ℤ) (h : History) (w : Profile) (n : ℕ)
+      → Begun f (sampled ps ∷ h) w n
+      → n ≤ w .duration
+      → thresholdAt f k ps h ≡ w .threshold
+  -- .. and no other sample: none after them, none before them, and none without a profile
+  pub laterJudged :
+      (k : ℕ) (ps : List ℤ) (h : History) (w : Profile) (n : ℕ)
+      → Begun f (sampled ps ∷ h) w n
+      → 1 ≤ w .duration
+      → w .duration < n
+      → thresholdAt f k ps h ≡ thresholdOf f k h
+  pub waitingJudged :
+      (k : ℕ) (ps : List ℤ) (h : History) (w : Profile)
+      → Waits f (sampled ps ∷ h) w
+      → thresholdAt f k ps h ≡ thresholdOf f k h
+  pub withoutJudged :
+      (k : ℕ) (ps : List ℤ) (h : History)
+      → NoneSet h []
+      → thresholdAt f k ps h ≡ thresholdOf f k h
+  -- document 02, A3: '.. at the end after the last governed one ..': then the normal threshold is in force, and there is no profile
+  pub afterLast :
+      (k : ℕ) (h : History) (w : Profile) (n : ℕ)
+      → Begun f h w n
+      → 1 ≤ w .duration
+      → w .duration ≤ n
+      → (profileState f h ≡ noProfile) × (thresholdInForce f k h ≡ thresholdOf f k h)
+  -- document 02, A3: '.. setting the clock back or new groups don't end it': only samples and kind 17 bear on it
+  pub profileKept :
+      (e : Effect) (h : History)
+      → ((ps : List ℤ) → e ≢ sampled ps)
+      → ((w : Profile) → e ≢ profileSet w)
+      → profileState f (e ∷ h) ≡ profileState f h
+  -- document 02, A3: '.. or at a kind 17 that replaces an active profile': from kind 17 on the normal threshold is in force
+  pub replacedNormal :
+      (k : ℕ) (h : History) (w : Profile)
+      → thresholdInForce f k (profileSet w ∷ h) ≡ thresholdOf f k h
+  -- .. and that change is seen there
+  pub replacedSeen :
+      (k : ℕ) (h : History) (w : Profile)
+      → observations f k (profileSet w ∷ h) ≡ changeSeen f h (thresholdInForce f k h) (thresholdOf f k h) ++ observations f k h
+  -- .. and over one that waits no 67 is owed: the normal threshold was in force
+  pub waitingUnlogged :
+      (n : ℕ) (h : History) (v w : Profile)
+      → profileState f h ≡ waiting v
+      → owedBy f n (profileSet w) h ≡ []
+  -- document 02, A3: 'Whenever the threshold in force becomes another number, Run is 0 ..'
+  pub changedRun :
+      (h : History) (before after : ℤ) (os : List Observation)
+      → eqZ before after ≡ false
+      → run (changeSeen f h before after ++ os) ≡ 0
+  -- document 02, A3: 'Whenever the threshold in force becomes another number ..': with an emergency threshold equal to the normal one nothing begins anew, and
+  -- a stretch runs on ..
+  pub equalUnseen :
+      (k : ℕ) (ps : List ℤ) (h : History) (w : Profile)
+      → profileOf h ≡ some w
+      → w .threshold ≡ thresholdOf f k h
+      → observations f k (sampled ps ∷ h) ≡ judged (ltZ (thresholdOf f k h) (numberAt ps k)) ∷ observations f k h
+  -- .. and no 67 is owed
+  pub equalUnlogged :
+      (n : ℕ) (ps : List ℤ) (h : History) (w : Profile)
+      → profileOf h ≡ some w
+      → ((k : ℕ) → w .threshold ≡ thresholdOf f k h)
+      → owedBy f n (sampled ps) h
+      ≡ when (eqb n 3)
+      (gathered (firingLines f (sampled ps) h) (monitoredValues f)
+      ++ when (moves f (sampled ps) h) (line (clockOf f (sampled ps ∷ h)) (localCode (switchOf f (sampled ps ∷ h))) ∷ []))
+  -- document 02, A3: '.. Run is 0 and 67 is logged ..', and no more: Exceeded outlives every change
+  pub exceededKept :
+      (h : History) (before after : ℤ) (os : List Observation)
+      → exceeded (changeSeen f h before after ++ os) ≡ exceeded os
 
 -- with one monitored value a sample decides and owes what document 01 says of its firing, over or under
 pub record OneMonitoredValue (f : AnyFresh) : Type 0 where
@@ -229,13 +329,16 @@ pub record OneMonitoredValue (f : AnyFresh) : Type 0 where
       ≡ cond (spell h) none
       (cond (overFiring f ps h && not (eqb (modeOf f h) 0)) (some 2)
       (given (underFiring f ps h && among (5 ∷ 6 ∷ []) (modeOf f h)) 1))
-  -- '.. log 65, then g is tried', '.. log 66, then h is tried': 'g .. 64', 'h .. 69'
+  -- '.. log 65, then g is tried', '.. log 66, then h is tried': 'g .. 64', 'h .. 69'; document 02, A3: with a 67 before them and one after them where the
+  -- threshold in force becomes another number
   pub sampleOwes :
       (n : ℕ) (ps : List ℤ) (h : History)
       → owedBy f n (sampled ps) h
       ≡ when (eqb n 3)
-      (when (overFiring f ps h) (lineAfter f ps h 65 ∷ when (moves f (sampled ps) h) (lineAfter f ps h 64 ∷ []))
+      (when (not (eqZ (thresholdInForce f 0 h) (thresholdAt f 0 ps h))) (lineAfter f ps h 67 ∷ [])
+      ++ ((when (overFiring f ps h) (lineAfter f ps h 65 ∷ when (moves f (sampled ps) h) (lineAfter f ps h 64 ∷ []))
       ++ when (underFiring f ps h) (lineAfter f ps h 66 ∷ when (moves f (sampled ps) h) (lineAfter f ps h 69 ∷ [])))
+      ++ when (not (eqZ (thresholdAt f 0 ps h) (thresholdInForce f 0 (sampled ps ∷ h)))) (lineAfter f ps h 67 ∷ [])))
 
 -- of every fresh meter, and of one with one monitored value
 abbrev pub Laws : Type 0

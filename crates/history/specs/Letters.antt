@@ -9,9 +9,10 @@ use Rattle.events.specs.Table.{EventRow}
 use Rattle.calls.specs.declared.Letter.{Letter}
 use Rattle.calls.specs.declared.Letter.the-variants.{A, B, C, D, E, F, G, H, None}
 use Rattle.history.specs.Effects.{AnyFresh, RequestCall, remoteDisconnect, remoteReconnect, manualDisconnect, manualReconnect, AnyCall, Effect}
-use Rattle.history.specs.Effects.{sampled, requested, modeSet, limitsSet, clockSet, occurred, filterSet, bitsCleared, logCleared, Reading, refused}
+use Rattle.history.specs.Effects.{sampled, requested, modeSet, limitsSet, clockSet, occurred, filterSet, bitsCleared, logCleared, groupsSet, profileSet, Reading, refused}
 use Rattle.history.specs.Effects.{accepted, reading}
 use Rattle.history.specs.Last.{History, modeOf}
+use Rattle.history.specs.Profile.{groupsOf}
 use Rattle.history.specs.Switch.{switchOf}
 use Rattle.history.specs.Logs.{moves}
 use Rattle.history.specs.Account.{acceptedCalls}
@@ -39,6 +40,8 @@ moveLetter (occurred r) from to = None
 moveLetter (filterSet s n) from to = None
 moveLetter (bitsCleared s n) from to = None
 moveLetter (logCleared n) from to = None
+moveLetter (groupsSet g) from to = None
+moveLetter (profileSet w) from to = None
 
 -- an accepted call: '.. none, and so does a call that .. moves nothing'
 abbrev pub letterOf : AnyFresh → Effect → History → Letter
@@ -51,7 +54,7 @@ letterRead f (accepted e) h = letterOf f e h
 
 -- a call behind a list of calls, newest first
 abbrev pub letterAfter : List EventRow → AnyFresh → List AnyCall → AnyCall → Letter
-letterAfter rows f cs c = let h = acceptedCalls rows f cs in letterRead f (reading rows (modeOf f h) c) h
+letterAfter rows f cs c = let h = acceptedCalls rows f cs in letterRead f (reading rows (modeOf f h) (groupsOf h) c) h
 
 -- the rows of the switch table: letter, call, 'From → to'. The modes of b, c, e and f are the rule of refusals' (`reading`), those of a, d, g and h are in
 -- the account's switch

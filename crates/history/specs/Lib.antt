@@ -1,5 +1,6 @@
 pub mod Effects
 pub mod Last
+pub mod Profile
 pub mod Limiter
 pub mod Switch
 pub mod Registers

@@ -4,12 +4,14 @@ use Prim.Native.Nat.{ℕ}
 use mathlib.Core.Bool.{Bool, true, false, not, _&&_, cond}
 use mathlib.Core.List.{List, [], _∷_, _++_}
 use lib.Dec.{eqb}
-use Rattle.base.specs.Tests.{gathered}
+use lib.IntN.{ℤ}
+use Rattle.base.specs.Tests.{any, eqZ, gathered}
 use Rattle.events.specs.Line.{Line, line, newest}
 use Rattle.history.specs.Effects.{AnyFresh, RequestCall, remoteDisconnect, remoteReconnect, manualDisconnect, manualReconnect, WhichRegister}
 use Rattle.history.specs.Effects.{alarms, errors, Effect, sampled, requested, modeSet, limitsSet, clockSet, occurred, filterSet, bitsCleared}
-use Rattle.history.specs.Effects.{logCleared}
+use Rattle.history.specs.Effects.{logCleared, groupsSet, profileSet}
 use Rattle.history.specs.Last.{History, clockOf}
+use Rattle.history.specs.Profile.{thresholdInForce, thresholdAt}
 use Rattle.history.specs.Limiter.{firesOver, firesUnder, monitoredValues}
 use Rattle.history.specs.Switch.{observations, switchOf}
 
@@ -40,18 +42,26 @@ firingLines f e h k =
     when (firesOver (observations f k h) (observations f k (e ∷ h))) (line now 65 ∷ [])
     ++ when (firesUnder (observations f k h) (observations f k (e ∷ h))) (line now 66 ∷ [])
 
+-- document 02, A3: 'Whenever the threshold in force becomes another number, .. 67 is logged ..': of some monitored value, from these thresholds to those
+abbrev pub changeLines : AnyFresh → ℕ → (ℕ → ℤ) → (ℕ → ℤ) → List Line
+changeLines f now before after = when (any (λ k. not (eqZ (before k) (after k))) (monitoredValues f)) (line now 67 ∷ [])
+
 -- '.. standard line 11 or 10 ..'
 abbrev pub clearCode : WhichRegister → ℕ
 clearCode alarms = 11
 clearCode errors = 10
 
 -- the lines that a call owes to log n, oldest first; 'Every line not otherwise described bears the clock after the call',
--- and call 8's is described: '.. standard line 4 with the old clock ..'
+-- and call 8's is described: '.. standard line 4 with the old clock ..'. A sample's are in the order of document 02, A3: a 67 '.. at the start before the
+-- sample is judged ..', the firings, the move, a 67 '.. at the end after the last governed one ..'
 abbrev pub owedBy : AnyFresh → ℕ → Effect → History → List Line
 owedBy f n (sampled ps) h =
+    let now = clockOf f (sampled ps ∷ h) in
     when (eqb n 3)
-    (gathered (firingLines f (sampled ps) h) (monitoredValues f)
-    ++ when (moves f (sampled ps) h) (line (clockOf f (sampled ps ∷ h)) (localCode (switchOf f (sampled ps ∷ h))) ∷ []))
+    (changeLines f now (λ k. thresholdInForce f k h) (λ k. thresholdAt f k ps h)
+    ++ (gathered (firingLines f (sampled ps) h) (monitoredValues f)
+    ++ (when (moves f (sampled ps) h) (line now (localCode (switchOf f (sampled ps ∷ h))) ∷ [])
+    ++ changeLines f now (λ k. thresholdAt f k ps h) (λ k. thresholdInForce f k (sampled ps ∷ h)))))
 owedBy f n (requested q) h =
     when (eqb n 3 && moves f (requested q) h) (line (clockOf f (requested q ∷ h)) (requestCode q (switchOf f (requested q ∷ h))) ∷ [])
 owedBy f n (modeSet m) h = when (eqb n 3 && moves f (modeSet m) h) (line (clockOf f (modeSet m ∷ h)) 63 ∷ [])
@@ -61,6 +71,9 @@ owedBy f n (occurred r) h = when (eqb n (r .log)) (line (clockOf f (occurred r �
 owedBy f n (filterSet s m) h = []
 owedBy f n (bitsCleared s m) h = when (eqb n 1) (line (clockOf f (bitsCleared s m ∷ h)) (clearCode s) ∷ [])
 owedBy f n (logCleared m) h = when (eqb n m) (line (clockOf f (logCleared m ∷ h)) 255 ∷ [])
+owedBy f n (groupsSet g) h = []
+owedBy f n (profileSet w) h =
+    when (eqb n 3) (changeLines f (clockOf f (profileSet w ∷ h)) (λ k. thresholdInForce f k h) (λ k. thresholdInForce f k (profileSet w ∷ h)))
 
 -- the call clears log n
 abbrev pub clearsLog : ℕ → Effect → Bool
@@ -73,6 +86,8 @@ clearsLog n (occurred r) = false
 clearsLog n (filterSet s m) = false
 clearsLog n (bitsCleared s m) = false
 clearsLog n (logCleared m) = eqb n m
+clearsLog n (groupsSet g) = false
+clearsLog n (profileSet w) = false
 
 -- the lines owed since log n was last cleared, oldest first
 unfoldable pub owed : AnyFresh → ℕ → History → List Line

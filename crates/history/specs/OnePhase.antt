@@ -1,5 +1,5 @@
 -- Document 01's meter: one phase, so its limiter has one monitored value.
-use Prim.Native.Nat.{ℕ}
+use Prim.Native.Nat.{ℕ, _/_, _%_}
 use mathlib.Core.Bool.{Bool, false}
 use mathlib.Core.List.{List, [], _∷_, map, reverse}
 use lib.IntN.{ℤ, pos}
@@ -9,9 +9,12 @@ use Rattle.events.specs.Table.{EventRow}
 use Rattle.calls.specs.declared.Letter.{Letter}
 use Rattle.calls.specs.declared.Call.{Call}
 use Rattle.calls.specs.declared.Call.the-variants.{Sample, RemoteDisconnect, RemoteReconnect, ManualDisconnect, ManualReconnect, SetMode, SetLimiter}
-use Rattle.calls.specs.declared.Call.the-variants.{SetClock, Event, SetAlarmFilter, SetErrorFilter, ClearAlarms, ClearErrors, ClearLog, Script}
+use Rattle.calls.specs.declared.Call.the-variants.{SetClock, Event, SetAlarmFilter, SetErrorFilter, ClearAlarms, ClearErrors, ClearLog, Script, SetGroups}
+use Rattle.calls.specs.declared.Call.the-variants.{SetProfile}
 use Rattle.history.specs.Effects.{AnyFresh, remoteDisconnect, remoteReconnect, manualDisconnect, manualReconnect, alarms, errors, AnyCall, sample}
-use Rattle.history.specs.Effects.{request, setMode, setLimiter, setClock, event, setFilter, clearBits, clearLog, script}
+use Rattle.history.specs.Effects.{request, setMode, setLimiter, setClock, event, setFilter, clearBits, clearLog, script, setGroups}
+use Rattle.history.specs.Effects.{setProfile, Profile}
+use Rattle.history.specs.Profile.{ProfileState}
 use Rattle.history.specs.Account.{MonitoredValue, AnyAccount, anyAccount}
 use Rattle.history.specs.Letters.{letterAfter}
 
@@ -27,7 +30,15 @@ pub record Fresh : Type 0 where
 abbrev pub asFresh : Fresh → AnyFresh
 asFresh f = record { mode = f .mode; thresholds = f .threshold ∷ []; over = f .over; under = f .under; clock = f .clock }
 
--- 'The fifteen calls': one power, one threshold
+-- document 02, A3: '.. a count, then the ids two to a number, high half first'
+abbrev pub idsOf : ℕ → ℕ → ℕ → ℕ → List ℕ
+idsOf a b c d = a / 65536 ∷ a % 65536 ∷ b / 65536 ∷ b % 65536 ∷ c / 65536 ∷ c % 65536 ∷ d / 65536 ∷ d % 65536 ∷ []
+
+-- document 02, A3: 'Kind 17 takes an id, an emergency threshold, an activation clock and a duration in samples'
+abbrev pub profileWith : ℕ → ℤ → ℕ → ℕ → Profile
+profileWith i t a d = record { id = i; threshold = t; activation = a; duration = d }
+
+-- 'The fifteen calls': one power, one threshold; and document 02's two
 abbrev pub asCall : Call → AnyCall
 asCall (Sample p) = sample (p ∷ [])
 asCall RemoteDisconnect = request remoteDisconnect
@@ -44,6 +55,8 @@ asCall (ClearAlarms n) = clearBits alarms n
 asCall (ClearErrors n) = clearBits errors n
 asCall (ClearLog n) = clearLog n
 asCall (Script n) = script n
+asCall (SetGroups n a b c d) = setGroups n (idsOf a b c d)
+asCall (SetProfile i t a d) = setProfile (profileWith i t a d)
 
 -- what the account holds, in the order of the page
 pub record Account : Type 0 where
@@ -61,6 +74,8 @@ pub record Account : Type 0 where
   pub errors : ℕ
   pub errorFilter : ℕ
   pub logs : List (List Line)
+  pub groups : List ℕ
+  pub profile : ProfileState
 
 -- the first monitored value of a list
 abbrev pub firstOf : List MonitoredValue → MonitoredValue
@@ -85,6 +100,8 @@ onePhase a =
       errors = a .errors;
       errorFilter = a .errorFilter;
       logs = a .logs;
+      groups = a .groups;
+      profile = a .profile;
     }
 
 -- 'Drawn from the list and its fresh settings ..': the list in the order of its calls; by an event table, document 01's being `builtIn`

@@ -1,21 +1,23 @@
 -- The forms of document 01's sentences that speak of a last or latest call: there is one, and none later; and the prefixes that are openings.
 -- Lists are the newest first. A split: the list is `later`, then the call, then `before`. What the account computes by looking back is equal to these,
 -- both ways: see Laws.
-use Prim.Native.Nat.{ℕ, suc, _+_}
+use Prim.Native.Nat.{ℕ, suc, _+_, _-_, _≤_, _<_}
 use mathlib.Core.Path.{_≡_}
 use mathlib.Core.Bool.{Bool, true, false, not, _&&_, cond}
 use mathlib.Core.List.{List, [], _∷_, _++_, map}
 use mathlib.Core.Logic.{_≢_}
 use mathlib.Core.Option.{Option, none, some}
 use lib.Dec.{eqb}
-use lib.Signed.{ltZ}
+use lib.IntN.{ℤ}
 use lib.ListN.{replicate}
 use Rattle.base.specs.Numbers.{held}
 use Rattle.events.specs.Line.{Line, line}
 use Rattle.events.specs.Table.{EventRow}
-use Rattle.history.specs.Effects.{AnyFresh, AnyCall, remoteDisconnect, remoteReconnect, manualReconnect, Effect, sampled, requested, modeSet}
-use Rattle.history.specs.Effects.{limitsSet, clockSet, occurred, filterSet, bitsCleared, logCleared}
-use Rattle.history.specs.Last.{History, given, limitsOf, thresholdOf, numberAt, clockIn, clockOf}
+use Rattle.history.specs.Effects.{AnyFresh, AnyCall, Profile, remoteDisconnect, remoteReconnect, manualReconnect, Effect, sampled, requested, modeSet}
+use Rattle.history.specs.Effects.{limitsSet, clockSet, occurred, filterSet, bitsCleared, logCleared, groupsSet, profileSet}
+use Rattle.history.specs.Last.{History, given, clockIn, clockOf}
+use Rattle.history.specs.Profile.{profileIn, ProfileState, noProfile, waiting, active}
+use Rattle.history.specs.Switch.{settingOf, seenIn}
 use Rattle.history.specs.Limiter.{Observation, setting, judged, durationOf, stretchEnds}
 use Rattle.history.specs.Logs.{moves, owedBy}
 use Rattle.history.specs.Account.{switchAfter}
@@ -67,6 +69,8 @@ samplesIn (occurred r ∷ h) = samplesIn h
 samplesIn (filterSet s n ∷ h) = samplesIn h
 samplesIn (bitsCleared s n ∷ h) = samplesIn h
 samplesIn (logCleared n ∷ h) = samplesIn h
+samplesIn (groupsSet g ∷ h) = samplesIn h
+samplesIn (profileSet w ∷ h) = samplesIn h
 
 -- 'Clock: last set, else fresh, plus samples since, held as above'
 pub data ClockSince (f : AnyFresh) (h : History) (t : ℕ) : Type 0 where
@@ -119,19 +123,7 @@ openingPrefixes rows f (next ∷ prefix) =
     (prefix ∷ openingPrefixes rows f prefix)
     (openingPrefixes rows f prefix)
 
--- what the limiter sees of monitored value k in one call that does not arm it again: a sample, over or not, or a limiter setting
-abbrev pub seenIn : AnyFresh → ℕ → Effect → History → List Observation
-seenIn f k (sampled ps) h = judged (ltZ (thresholdOf f k h) (numberAt ps k)) ∷ []
-seenIn f k (requested q) h = []
-seenIn f k (modeSet n) h = []
-seenIn f k (limitsSet ts o u) h = setting o u ∷ []
-seenIn f k (clockSet n) h = []
-seenIn f k (occurred r) h = []
-seenIn f k (filterSet r n) h = []
-seenIn f k (bitsCleared r n) h = []
-seenIn f k (logCleared n) h = []
-
--- in the calls of `later`, made after those of `before`, newest first
+-- what the limiter sees of monitored value k in the calls of `later`, made after those of `before`, newest first
 unfoldable pub seenBetween : AnyFresh → ℕ → History → History → List Observation
 seenBetween f k [] before = []
 seenBetween f k (e ∷ later) before = seenIn f k e (later ++ before) ++ seenBetween f k later before
@@ -149,7 +141,7 @@ pub data SeenSince (f : AnyFresh) (k : ℕ) (h : History) (os : List Observation
       → h ≡ later ++ (e ∷ before)
       → Arms f e before
       → Each (λ e h. ¬ Arms f e h) later (e ∷ before)
-      → os ≡ seenBetween f k later (e ∷ before) ++ (setting (limitsOf f before .over) (limitsOf f before .under) ∷ [])
+      → os ≡ seenBetween f k later (e ∷ before) ++ (settingOf f before ∷ [])
       → SeenSince f k h os
   neverArmed :
       Each (λ e h. ¬ Arms f e h) h []
@@ -185,3 +177,42 @@ stretchAt (judged c) os = cond (stretchEnds true (judged c ∷ os)) (some true) 
 pub data Trailing (b : Bool) (xs : List Bool) (n : ℕ) : Type 0 where
   all : xs ≡ replicate n b → Trailing b xs n
   broken : (others : List Bool) → xs ≡ replicate n b ++ (not b ∷ others) → Trailing b xs n
+
+-- ---- document 02, A3: the profile
+
+-- 'It replaces any earlier profile ..': no call of `later` sets one
+abbrev pub NoneSet : History → History → Type 0
+NoneSet later before = NonePicks profileIn later before
+
+-- no sample of `later` has reached the activation clock; the 'advanced clock' is the one after the sample
+abbrev pub NotReached : AnyFresh → ℕ → History → History → Type 0
+NotReached f activation later before = Each (λ e h. (ps : List ℤ) → e ≡ sampled ps → clockOf f (e ∷ h) < activation) later before
+
+-- '.. and waits': w is the profile last set, and no sample since has reached activation
+pub record Waits (f : AnyFresh) (h : History) (w : Profile) : Type 0 where
+  pub since : History
+  pub before : History
+  pub split : h ≡ since ++ (profileSet w ∷ before)
+  pub noneSet : NoneSet since (profileSet w ∷ before)
+  pub notReached : NotReached f (w .activation) since (profileSet w ∷ before)
+
+-- 'It goes active with the first sample whose advanced clock has reached activation ..': w is the profile last set, there is such a sample, and there are n
+-- samples from it on, it included
+pub record Begun (f : AnyFresh) (h : History) (w : Profile) (n : ℕ) : Type 0 where
+  pub since : History
+  pub powers : List ℤ
+  pub waited : History
+  pub before : History
+  pub split : h ≡ since ++ (sampled powers ∷ (waited ++ (profileSet w ∷ before)))
+  pub noneSet : NoneSet since (sampled powers ∷ (waited ++ (profileSet w ∷ before)))
+  pub noneSetWaiting : NoneSet waited (profileSet w ∷ before)
+  pub notReached : NotReached f (w .activation) waited (profileSet w ∷ before)
+  pub reached : w .activation ≤ clockOf f (sampled powers ∷ (waited ++ (profileSet w ∷ before)))
+  pub counted : n ≡ suc (samplesIn since)
+
+-- '.. the profile while it waits or runs, which of the two, and samples left; after the last governed sample the state is 0 and the account has no profile'
+pub data InState (f : AnyFresh) (h : History) (x : ProfileState) : Type 0 where
+  noneEver : NoneSet h [] → x ≡ noProfile → InState f h x
+  waits : (w : Profile) → Waits f h w → x ≡ waiting w → InState f h x
+  runs : (w : Profile) (n : ℕ) → Begun f h w n → n < w .duration → x ≡ active w (w .duration - n) → InState f h x
+  ended : (w : Profile) (n : ℕ) → Begun f h w n → w .duration ≤ n → x ≡ noProfile → InState f h x

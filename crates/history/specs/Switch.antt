@@ -2,14 +2,16 @@
 -- other for the calls before: a firing may decide the switch, and a manual reconnect that moves it acts as a limiter setting (document 02, A5).
 use Prim.Native.Nat.{ℕ}
 use mathlib.Core.Bool.{Bool, true, false, not, _&&_, cond}
-use mathlib.Core.List.{List, [], _∷_}
+use mathlib.Core.List.{List, [], _∷_, _++_}
 use mathlib.Core.Option.{Option, none, some}
 use lib.Dec.{eqb}
+use lib.IntN.{ℤ}
 use lib.Signed.{ltZ}
-use Rattle.base.specs.Tests.{among, any}
+use Rattle.base.specs.Tests.{among, any, eqZ}
 use Rattle.history.specs.Effects.{AnyFresh, remoteDisconnect, remoteReconnect, manualDisconnect, manualReconnect, Effect, sampled, requested}
-use Rattle.history.specs.Effects.{modeSet, limitsSet, clockSet, occurred, filterSet, bitsCleared, logCleared}
-use Rattle.history.specs.Last.{History, otherwise, given, last, modeOf, limitsOf, thresholdOf, numberAt}
+use Rattle.history.specs.Effects.{modeSet, limitsSet, clockSet, occurred, filterSet, bitsCleared, logCleared, groupsSet, profileSet}
+use Rattle.history.specs.Last.{History, otherwise, given, last, modeOf, limitsOf, numberAt}
+use Rattle.history.specs.Profile.{thresholdInForce, thresholdAt}
 use Rattle.history.specs.Limiter.{Observation, setting, judged, exceeded, run, firesOver, firesUnder, monitoredValues, Observations}
 
 -- 'A spell runs from an accepted remote disconnect to the next accepted remote reconnect or mode 0': what begins one (true) and what ends it
@@ -27,6 +29,8 @@ spellEdge (occurred r) h = none
 spellEdge (filterSet s n) h = none
 spellEdge (bitsCleared s n) h = none
 spellEdge (logCleared n) h = none
+spellEdge (groupsSet g) h = none
+spellEdge (profileSet w) h = none
 
 -- a spell goes on: the latest of these calls began one
 unfoldable pub spell : History → Bool
@@ -68,28 +72,61 @@ decidesBy f bySample (occurred r) h = none
 decidesBy f bySample (filterSet s n) h = none
 decidesBy f bySample (bitsCleared s n) h = none
 decidesBy f bySample (logCleared n) h = none
+decidesBy f bySample (groupsSet g) h = none
+decidesBy f bySample (profileSet w) h = none
 
 -- 'Inside one the switch is 0. Otherwise the last deciding call rules ..': by what that call gives
 abbrev pub switchBy : History → ℕ → ℕ
 switchBy h decided = cond (spell h) 0 decided
 
--- what the limiter has seen of monitored value k after a call, os being what it had seen before it, and s the switch before it. '.. by the settings in
--- force at that sample ..': a sample is judged by the threshold last accepted before it. 'Other calls between don't break it'. Document 02, A5: 'a manual
--- reconnect that moves the switch', from 2, '.. acts as a limiter setting', that in force, '.. and earlier full stretches no longer count': what was seen
--- before is left out
+-- the setting in force, as the limiter sees it: 'A limiter setting is fresh or an accepted call 7'
+abbrev pub settingOf : AnyFresh → History → Observation
+settingOf f h = setting (limitsOf f h .over) (limitsOf f h .under)
+
+-- document 02, A3: 'Whenever the threshold in force becomes another number ..', 'A threshold change acts in the account as a limiter setting at that
+-- place ..': from one threshold to another
+abbrev pub changeSeen : AnyFresh → History → ℤ → ℤ → List Observation
+changeSeen f h before after = cond (eqZ before after) [] (settingOf f h ∷ [])
+
+-- what the limiter sees of monitored value k in one call, newest first. '.. by the settings in force at that sample ..': a sample is over if its power is
+-- above the threshold in force at it; document 02, A3: '.. at the start before the sample is judged, at the end after the last governed one, or at a kind
+-- 17 that replaces an active profile'. 'Other calls between don't break it'
+abbrev pub seenIn : AnyFresh → ℕ → Effect → History → List Observation
+seenIn f k (sampled ps) h =
+    changeSeen f h (thresholdAt f k ps h) (thresholdInForce f k (sampled ps ∷ h))
+    ++ (judged (ltZ (thresholdAt f k ps h) (numberAt ps k)) ∷ changeSeen f h (thresholdInForce f k h) (thresholdAt f k ps h))
+seenIn f k (requested q) h = []
+seenIn f k (modeSet n) h = []
+seenIn f k (limitsSet ts o u) h = setting o u ∷ []
+seenIn f k (clockSet n) h = []
+seenIn f k (occurred r) h = []
+seenIn f k (filterSet r n) h = []
+seenIn f k (bitsCleared r n) h = []
+seenIn f k (logCleared n) h = []
+seenIn f k (groupsSet g) h = []
+seenIn f k (profileSet w) h = changeSeen f h (thresholdInForce f k h) (thresholdInForce f k (profileSet w ∷ h))
+
+-- document 02, A5: 'a manual reconnect that moves the switch ..', which it does from 2
+abbrev pub arms : Effect → ℕ → Bool
+arms (sampled ps) s = false
+arms (requested remoteDisconnect) s = false
+arms (requested remoteReconnect) s = false
+arms (requested manualDisconnect) s = false
+arms (requested manualReconnect) s = eqb s 2
+arms (modeSet n) s = false
+arms (limitsSet ts o u) s = false
+arms (clockSet n) s = false
+arms (occurred r) s = false
+arms (filterSet r n) s = false
+arms (bitsCleared r n) s = false
+arms (logCleared n) s = false
+arms (groupsSet g) s = false
+arms (profileSet w) s = false
+
+-- what the limiter has seen of monitored value k after a call, os being what it had seen before it, and s the switch before it. Document 02, A5: such a
+-- reconnect '.. acts as a limiter setting', that in force, '.. and earlier full stretches no longer count': what was seen before is left out
 abbrev pub observed : AnyFresh → ℕ → Effect → History → ℕ → List Observation → List Observation
-observed f k (sampled ps) h s os = judged (ltZ (thresholdOf f k h) (numberAt ps k)) ∷ os
-observed f k (requested remoteDisconnect) h s os = os
-observed f k (requested remoteReconnect) h s os = os
-observed f k (requested manualDisconnect) h s os = os
-observed f k (requested manualReconnect) h s os = cond (eqb s 2) (setting (limitsOf f h .over) (limitsOf f h .under) ∷ []) os
-observed f k (modeSet n) h s os = os
-observed f k (limitsSet ts o u) h s os = setting o u ∷ os
-observed f k (clockSet n) h s os = os
-observed f k (occurred r) h s os = os
-observed f k (filterSet r n) h s os = os
-observed f k (bitsCleared r n) h s os = os
-observed f k (logCleared n) h s os = os
+observed f k e h s os = cond (arms e s) (settingOf f h ∷ []) (seenIn f k e h ++ os)
 
 unfoldable mutual
   -- what the limiter has seen of monitored value k, newest first: 'A limiter setting is fresh or an accepted call 7'

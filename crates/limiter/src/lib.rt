@@ -1,6 +1,6 @@
 // The limiter (DLMS class 71): samples above the threshold, counted.
 ghost use mathlib.Core.Path.{_≡_};
-ghost use Rattle.limiter.specs.Limiter.{isOver, isThreshold, isDuration, awaited, counts, withRun, watched, sampledPower, withSettings, armed, soundLimiter};
+ghost use Rattle.limiter.specs.Limiter.{isOver, isThreshold, isDuration, awaited, counts, withRun, watched, sampledPower, withSettings, restarted, armed, soundLimiter};
 ghost use Rattle.limiter.specs.Laws.{Laws, ArmedLaws};
 ghost use Rattle.limiter.specs.NearMisses.{NearMisses};
 
@@ -26,7 +26,7 @@ fn is_over(threshold: i32, power: i32) -> bool
 }
 
 // The range of the threshold, in watts; its upper end is its type's.
-fn is_threshold(watts: i32) -> bool
+pub fn is_threshold(watts: i32) -> bool
     ensures { λ r. ⌜ r ≡ isThreshold watts ⌝ }
 {
     0 <= watts
@@ -102,12 +102,12 @@ impl Limiter {
         }
     }
 
-    // The limiter after a sample of power.
-    pub fn sample(self, power: i32) -> Watched
-        ensures { λ r. ⌜ r ≡ sampledPower self power ⌝ }
+    // The limiter after a sample of power, judged by the threshold in force.
+    pub fn sample(self, threshold: i32, power: i32) -> Watched
+        ensures { λ r. ⌜ r ≡ sampledPower self threshold power ⌝ }
         ensures laws { λ _. ⌜ Laws ⌝ }
     {
-        self.watch(is_over(self.threshold, power))
+        self.watch(is_over(threshold, power))
     }
 
     // New settings start a new run; Exceeded stays.
@@ -119,6 +119,13 @@ impl Limiter {
         self.under = under;
         self.run = 0;
         self
+    }
+    // Another threshold is in force: a new run begins; Exceeded stays.
+    pub fn restart(self) -> Limiter
+        ensures { λ r. ⌜ r ≡ restarted self ⌝ }
+    {
+        let exceeded = self.exceeded;
+        self.with_run(exceeded, 0)
     }
 
     // Armed again: whatever was seen before no longer counts.

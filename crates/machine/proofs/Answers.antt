@@ -4,12 +4,14 @@ use mathlib.Core.Path.{_≡_, refl, ap, _∙_}
 use mathlib.Core.Bool.{Bool, true, false, _&&_, _||_, cond, or-false}
 use mathlib.Core.List.{List, [], _∷_}
 use mathlib.Core.Option.{Option, none, some}
-use Prim.Native.Nat.{ℕ}
+use Prim.Native.Nat.{ℕ, zero, suc}
 use lib.Dec.{eqb, leb}
 use lib.IntN.{ℤ, pos}
+use lib.ListN.{take}
 use lib.Signed.{leZ}
 use Rattle.base.specs.Tests.{within, among, every}
 use Rattle.base.proofs.Bools.{and-left, and-right}
+use Rattle.base.proofs.Every.{among-passes}
 use Rattle.events.specs.Line.{isLog}
 use Rattle.events.specs.Table.{EventRow, lookup, lawful}
 use Rattle.events.proofs.Rule.{row-passes}
@@ -20,14 +22,17 @@ use Rattle.control.specs.declared.Decision.the-variants.{Move, Stay, NotListed}
 use Rattle.control.specs.Table.{SwitchRow, switchTable}
 use Rattle.control.specs.Control.{lists, orStay, decision}
 use Rattle.calls.specs.declared.Answer.{Answer}
+use Rattle.emergency.specs.Emergency.{groupsIn}
 use Rattle.history.specs.Effects.{RequestCall, remoteDisconnect, remoteReconnect, manualDisconnect, manualReconnect, AnyCall, sample}
-use Rattle.history.specs.Effects.{request as requestCall, setMode, setLimiter, setClock, event, setFilter, clearBits, clearLog, script, Effect, requested}
+use Rattle.history.specs.Effects.{request as requestCall, setMode, setLimiter, setClock, event, setFilter, clearBits, clearLog, script, setGroups}
+use Rattle.history.specs.Effects.{setProfile, Effect, requested}
 use Rattle.history.specs.Effects.{listedModes, Reading, refused, accepted, readRequest, readLimits, readEvent, reading}
 use Rattle.machine.specs.Values.{Values, State}
 use Rattle.machine.specs.Machine.{Result, refusing, making, answeredWith, moving, decided, answering, armedValues, requestResult, modeResult}
-use Rattle.machine.specs.Machine.{limiterResult, occurring, eventResult, clearLogResult, scriptResult, requestOf, result, Change, stateAfter}
+use Rattle.machine.specs.Machine.{limiterResult, occurring, eventResult, clearLogResult, scriptResult, groupsResult, profileResult, requestOf, result, Change}
+use Rattle.machine.specs.Machine.{stateAfter}
 use Rattle.machine.specs.Settings.{limitsAnswer}
-use Rattle.machine.specs.Ranges.{AnyInRange}
+use Rattle.machine.specs.Ranges.{isId, AnyInRange}
 use Rattle.machine.proofs.Effects.{readResult, Proper}
 
 -- a result that a test decides
@@ -117,8 +122,9 @@ answered-cond true x y k = refl
 answered-cond false x y k = refl
 
 -- a call does what its reading says: for any values, sound or not
-pub by-reading : (rows : List EventRow) (s : Values) (c : AnyCall) → result rows s c ≡ readResult s (reading rows (s .control .mode) c)
-unfolding reading modeResult limitsAnswer limiterResult eventResult clearLogResult scriptResult
+pub by-reading : (rows : List EventRow) (s : Values) (c : AnyCall) → result rows s c
+    ≡ readResult s (reading rows (s .control .mode) (groupsIn (s .emergency)) c)
+unfolding reading groupsResult profileResult modeResult limitsAnswer limiterResult eventResult clearLogResult scriptResult
 by-reading rows s (sample ps) = refl
 by-reading rows s (requestCall q) = request-read s q
 by-reading rows s (setMode n) = simp (read-cond s)
@@ -129,13 +135,22 @@ by-reading rows s (setFilter x n) = refl
 by-reading rows s (clearBits x n) = refl
 by-reading rows s (clearLog n) = simp (read-cond s)
 by-reading rows s (script n) = simp (request-read s remoteDisconnect, request-read s remoteReconnect, read-cond s)
+by-reading rows s (setGroups n ids) = simp (read-cond s)
+by-reading rows s (setProfile w) = simp (read-cond s)
 
 -- ---- what an accepted call asks for is proper
 abbrev ProperReading : ℕ → Reading → Type 0
 ProperReading m (refused n) = Unit
 ProperReading m (accepted e) = Proper m e
 
-module _ (rows : List EventRow) (all : every lawful rows ≡ true) (m : ℕ) where
+-- as many of a list as one likes
+every-take : (n : ℕ) (xs : List ℕ) → every isId xs ≡ true → every isId (take n xs) ≡ true
+unfolding every
+every-take zero xs h = refl
+every-take (suc n) [] h = refl
+every-take (suc n) (x ∷ xs) h = rw (and-left (isId x) (every isId xs) h) (every-take n xs (and-right (isId x) (every isId xs) h))
+
+module _ (rows : List EventRow) (all : every lawful rows ≡ true) (m : ℕ) (gs : List ℕ) (small : every isId gs ≡ true) where
   request-proper : (q : RequestCall) → ProperReading m (readRequest m q)
   request-proper q = either (ProperReading m) (among (listedModes q) m) (λ e. e) (λ e. tt)
 
@@ -151,7 +166,7 @@ module _ (rows : List EventRow) (all : every lawful rows ≡ true) (m : ℕ) whe
   event-proper c none e = tt
   event-proper c (some r) e = row-passes lawful rows c r e all
 
-  reading-proper : (c : AnyCall) → AnyInRange c → ProperReading m (reading rows m c)
+  reading-proper : (c : AnyCall) → AnyInRange c → ProperReading m (reading rows m gs c)
   unfolding reading
   reading-proper (sample ps) h = tt
   reading-proper (requestCall q) h = request-proper q
@@ -165,6 +180,13 @@ module _ (rows : List EventRow) (all : every lawful rows ≡ true) (m : ℕ) whe
   reading-proper (script n) h =
       either (ProperReading m) (eqb n 1) (λ e. request-proper remoteDisconnect)
       (λ e. either (ProperReading m) (eqb n 2) (λ f. request-proper remoteReconnect) (λ f. tt))
+  reading-proper (setGroups n ids) h = either (ProperReading m) (leb n 8) (λ e. every-take n ids h) (λ e. tt)
+  reading-proper (setProfile w) h =
+      either (ProperReading m) (among gs (w .id))
+      (λ e. either (ProperReading m) (within 1 604800 (w .duration) && leZ (pos 0) (w .threshold))
+      (λ d. (and-left (within 1 604800 (w .duration)) (leZ (pos 0) (w .threshold)) d, (among-passes isId gs (w .id) small e, h .1)))
+      (λ d. tt))
+      (λ e. tt)
 
-  pub proper : (c : AnyCall) (e : Effect) → AnyInRange c → reading rows m c ≡ accepted e → Proper m e
+  pub proper : (c : AnyCall) (e : Effect) → AnyInRange c → reading rows m gs c ≡ accepted e → Proper m e
   proper c e h q = rw q at (reading-proper c h)

@@ -3,7 +3,7 @@ use native.Mathlib.Omega.{arith}
 use mathlib.Core.Path.{_≡_, ap, _∙_}
 use mathlib.Core.List.{_∷_}
 use Rattle.history.specs.Effects.{AnyFresh, alarms, errors, Effect, sampled, requested, modeSet, limitsSet, clockSet, occurred, filterSet, bitsCleared}
-use Rattle.history.specs.Effects.{logCleared}
+use Rattle.history.specs.Effects.{logCleared, groupsSet, profileSet}
 use Rattle.history.specs.Last.{History, last, samplesSince, modeOf, clockOf}
 use Rattle.machine.specs.Values.{Values}
 use Rattle.machine.proofs.Effects.{effectResult, Proper}
@@ -23,6 +23,8 @@ module _ (f : AnyFresh) (h : History) (s : Values) (c : s .clock ≡ clockOf f h
   clock-part (bitsCleared alarms n) g = c
   clock-part (bitsCleared errors n) g = c
   clock-part (logCleared n) g = c
+  clock-part (groupsSet ids) g = c
+  clock-part (profileSet w) g = c
 
   pub clock-after : (e : Effect) → Proper (modeOf f h) e → effectResult s e .values .clock ≡ clockOf f (e ∷ h)
   clock-after e g = ap (λ (t : Values). t .clock) (values-after s e) ∙ clock-part e g

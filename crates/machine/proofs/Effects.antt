@@ -18,18 +18,23 @@ use Rattle.control.specs.declared.Decision.the-variants.{Move, Stay, NotListed}
 use Rattle.control.specs.Control.{modeDecision, inMode}
 use Rattle.limiter.specs.declared.Limiter.{Limiter}
 use Rattle.limiter.specs.Limiter.{armed}
+use Rattle.emergency.specs.declared.Emergency.{Emergency}
+use Rattle.emergency.specs.Emergency.{withGroups}
 use Rattle.calls.specs.Calls.{Word}
 use Rattle.calls.specs.declared.Letter.the-variants.{None}
 use Rattle.history.specs.Effects.{AnyFresh, WhichRegister, alarms, errors, Effect, sampled, requested, modeSet, limitsSet, clockSet, occurred, filterSet}
-use Rattle.history.specs.Effects.{bitsCleared, logCleared, listedModes, Reading, refused, accepted}
+use Rattle.history.specs.Effects.{bitsCleared, logCleared, groupsSet, profileSet, listedModes, Reading, refused, accepted}
 use Rattle.history.specs.Last.{History, modeOf, limitsOf, thresholdOf, filterOf, clockOf}
+use Rattle.history.specs.Profile.{groupsOf, profileState}
 use Rattle.history.specs.Limiter.{monitoredValues}
 use Rattle.history.specs.Switch.{switchOf, exceededOf, runOf}
 use Rattle.history.specs.Registers.{bitsOf}
 use Rattle.history.specs.Account.{opens}
-use Rattle.machine.specs.Values.{Values, withControl, withLimiters}
+use Rattle.machine.specs.Values.{Values, withControl, withLimiters, withEmergency}
 use Rattle.machine.specs.Machine.{Change, Result, refusing, making, owing, lineNow, moving, decided, armedBy, armedValues, requestOf, sampleResult}
-use Rattle.machine.specs.Machine.{settingsEach, clockResult, reported, filterResult, clearResult}
+use Rattle.machine.specs.Machine.{settingsEach, clockResult, reported, filterResult, clearResult, profiled}
+use Rattle.machine.specs.Ranges.{isId}
+use Rattle.machine.specs.Holding.{emergencyOf}
 
 -- what holds of limiters and of the same limiters armed holds of those that a request leaves
 pub armed-or-not : (P : List Limiter → Type 0) (q : Request) (d : Decision) (ls : List Limiter) → P ls → P (map armed ls) → P (armedBy q d ls)
@@ -53,6 +58,8 @@ effectResult s (occurred r) = reported s r
 effectResult s (filterSet x n) = filterResult s x n
 effectResult s (bitsCleared x n) = clearResult s x n
 effectResult s (logCleared n) = record { values = s; letter = None; cleared = n; log = n; lines = lineNow s 255 ∷ [] }
+effectResult s (groupsSet g) = owing (withEmergency s (withGroups (s .emergency) g)) 0 []
+effectResult s (profileSet w) = profiled s w
 
 -- a call as it is read: refused, or carried out
 abbrev pub readResult : Values → Reading → Result
@@ -70,6 +77,8 @@ Proper m (occurred r) = lawful r ≡ true
 Proper m (filterSet s n) = Word n
 Proper m (bitsCleared s n) = Word n
 Proper m (logCleared n) = isLog n ≡ true
+Proper m (groupsSet g) = every isId g ≡ true
+Proper m (profileSet w) = (within 1 604800 (w .duration) ≡ true) × ((isId (w .id) ≡ true) × Word (w .activation))
 
 -- each accepted call of a history is proper
 pub data AllProper (f : AnyFresh) : History → Type 0 where
@@ -96,6 +105,10 @@ heldLimiters f h = map (heldLimiter f h) (monitoredValues f)
 abbrev pub registerOf : WhichRegister → History → Register
 registerOf s h = record { bits = bitsOf s h; filter = filterOf s h }
 
+-- the groups and the profile
+abbrev pub heldEmergency : AnyFresh → History → Emergency
+heldEmergency f h = emergencyOf (groupsOf h) (profileState f h)
+
 abbrev pub heldValues : AnyFresh → History → ℕ → Values
 heldValues f h n =
     record {
@@ -104,6 +117,7 @@ heldValues f h n =
       clock = clockOf f h;
       alarms = registerOf alarms h;
       errors = registerOf errors h;
+      emergency = heldEmergency f h;
     }
 
 -- the number of openings after one more call

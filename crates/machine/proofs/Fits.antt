@@ -5,19 +5,21 @@ use mathlib.Core.List.{List, [], _∷_}
 use Prim.Native.Nat.{ℕ, _-_}
 use native.Mathlib.Omega.{arith}
 use lib.Dec.{eqb, leb, ltb}
+use lib.IntN.{ℤ}
 use lib.ListN.{length}
 use borrow.Author.Tests.{le-leb}
-use Rattle.base.specs.Tests.{every, gathered}
+use Rattle.base.specs.Tests.{every, any, eqZ, gathered}
 use Rattle.base.proofs.Bools.{and-left, and-right}
 use Rattle.base.proofs.Every.{every-append, every-drop}
 use Rattle.events.specs.Line.{Line, line, isLog, newest}
 use Rattle.events.specs.Table.{EventRow, position, lawful}
 use Rattle.history.specs.Effects.{AnyFresh, RequestCall, remoteDisconnect, remoteReconnect, manualDisconnect, manualReconnect, WhichRegister, alarms}
-use Rattle.history.specs.Effects.{errors, Effect, sampled, requested, modeSet, limitsSet, clockSet, occurred, filterSet, bitsCleared, logCleared}
+use Rattle.history.specs.Effects.{errors, Effect, sampled, requested, modeSet, limitsSet, clockSet, occurred, filterSet, bitsCleared, logCleared, groupsSet, profileSet}
 use Rattle.history.specs.Last.{History, modeOf, clockOf}
+use Rattle.history.specs.Profile.{thresholdInForce, thresholdAt}
 use Rattle.history.specs.Limiter.{firesOver, firesUnder, monitoredValues}
 use Rattle.history.specs.Switch.{observations, switchOf}
-use Rattle.history.specs.Logs.{when, moves, requestCode, firingLines, clearCode, owedBy, clearsLog, owed, logOf}
+use Rattle.history.specs.Logs.{when, moves, requestCode, localCode, firingLines, changeLines, clearCode, owedBy, clearsLog, owed, logOf}
 use Rattle.machine.proofs.Effects.{Proper, AllProper, none, more}
 
 -- a clock of 32 bits and a code of a byte
@@ -58,6 +60,10 @@ module _ (f : AnyFresh) where
       every-append fits _ _ (when-fits (firesOver before after) _ (one-fits (e ∷ h) 65 refl))
       (when-fits (firesUnder before after) _ (one-fits (e ∷ h) 66 refl))
 
+  -- a line 67
+  change-fits : (h : History) (before after : ℕ → ℤ) → every fits (changeLines f (clockOf f h) before after) ≡ true
+  change-fits h before after = when-fits (any (λ k. not (eqZ (before k) (after k))) (monitoredValues f)) _ (one-fits h 67 refl)
+
   local-byte : (b : Bool) → ltb (cond b 69 64) 256 ≡ true
   local-byte true = refl
   local-byte false = refl
@@ -83,9 +89,12 @@ module _ (f : AnyFresh) where
   owed-by-fits : (n : ℕ) (e : Effect) (h : History) → Proper (modeOf f h) e → every fits (owedBy f n e h) ≡ true
   owed-by-fits n (sampled ps) h g =
       let after = sampled ps ∷ h in
+      let to = switchOf f after in
       when-fits (eqb n 3) _
+      (every-append fits _ _ (change-fits after (λ k. thresholdInForce f k h) (λ k. thresholdAt f k ps h))
       (every-append fits _ _ (gathered-fit (firingLines f (sampled ps) h) (firing-fits (sampled ps) h) (monitoredValues f))
-      (when-fits (moves f (sampled ps) h) _ (one-fits after _ (local-byte (eqb (switchOf f after) 1)))))
+      (every-append fits _ _ (when-fits (moves f (sampled ps) h) _ (one-fits after (localCode to) (local-byte (eqb to 1))))
+      (change-fits after (λ k. thresholdAt f k ps h) (λ k. thresholdInForce f k after)))))
   owed-by-fits n (requested q) h g =
       when-fits (eqb n 3 && moves f (requested q) h) _ (one-fits (requested q ∷ h) (requestCode q (switchOf f (requested q ∷ h))) (request-byte q _))
   owed-by-fits n (modeSet m) h g = when-fits (eqb n 3 && moves f (modeSet m) h) _ (one-fits (modeSet m ∷ h) 63 refl)
@@ -95,6 +104,9 @@ module _ (f : AnyFresh) where
   owed-by-fits n (filterSet s m) h g = none-fit
   owed-by-fits n (bitsCleared s m) h g = when-fits (eqb n 1) _ (one-fits (bitsCleared s m ∷ h) (clearCode s) (clear-byte s))
   owed-by-fits n (logCleared m) h g = when-fits (eqb n m) _ (one-fits (logCleared m ∷ h) 255 refl)
+  owed-by-fits n (groupsSet ids) h g = none-fit
+  owed-by-fits n (profileSet w) h g =
+      when-fits (eqb n 3) _ (change-fits (profileSet w ∷ h) (λ k. thresholdInForce f k h) (λ k. thresholdInForce f k (profileSet w ∷ h)))
 
   owed-fits : (n : ℕ) (h : History) → AllProper f h → every fits (owed f n h) ≡ true
   unfolding owed

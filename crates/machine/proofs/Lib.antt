@@ -1,6 +1,7 @@
 pub mod Lists
 pub mod Effects
 pub mod Ranges
+pub mod Profile
 pub mod OtherParts
 pub mod Clock
 pub mod Registers

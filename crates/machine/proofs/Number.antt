@@ -2,7 +2,7 @@
 use Prim.Native.Nat.{ℕ, suc, _+_}
 use mathlib.Core.Path.{_≡_, refl, ap, _∙_}
 use mathlib.Core.Bool.{Bool, true, false}
-use mathlib.Core.List.{List, [], _∷_, map}
+use mathlib.Core.List.{List, [], _∷_, _++_, map}
 use lib.ListN.{length, length-map}
 use Rattle.base.specs.Numbers.{held}
 use Rattle.base.specs.Tests.{gathered, eachFrom}
@@ -14,11 +14,12 @@ use Rattle.control.specs.declared.Decision.the-variants.{Move, Stay, NotListed}
 use Rattle.control.specs.Control.{modeDecision, inMode}
 use Rattle.limiter.specs.declared.Watched.{Watched}
 use Rattle.limiter.specs.Limiter.{armed}
+use Rattle.emergency.specs.Emergency.{groupsIn, started, ended}
 use Rattle.history.specs.Effects.{alarms, errors, AnyCall, Effect, sampled, requested, modeSet, limitsSet, clockSet, occurred, filterSet, bitsCleared}
-use Rattle.history.specs.Effects.{logCleared, Reading, refused, accepted, reading}
-use Rattle.machine.specs.Values.{Values, State, withControl, withLimiters, withClock}
-use Rattle.machine.specs.Machine.{moving, decided, armedValues, sampledEach, firedLines, disconnectTried, reconnectTried, afterSample}
-use Rattle.machine.specs.Machine.{sampleResult, requestOf, result}
+use Rattle.history.specs.Effects.{logCleared, groupsSet, profileSet, Reading, refused, accepted, reading}
+use Rattle.machine.specs.Values.{Values, State, withControl, withLimiters, withClock, withEmergency}
+use Rattle.machine.specs.Machine.{moving, decided, armedValues, sampledEach, sameThreshold, firedLines, disconnectTried, reconnectTried, afterSample}
+use Rattle.machine.specs.Machine.{changeLines, sampleResult, requestOf, result}
 use Rattle.machine.proofs.Effects.{armed-or-not, effectResult, readResult}
 use Rattle.machine.specs.Laws.{afterResult}
 use Rattle.machine.proofs.Answers.{by-reading}
@@ -33,19 +34,22 @@ moving-limiters v xs (Move t c o x) = refl
 moving-limiters v xs Stay = refl
 moving-limiters v xs NotListed = refl
 
-sample-limiters : (v : Values) (ws : List Watched) → afterSample v ws .values .limiters ≡ v .limiters
-sample-limiters v ws = go (disconnectTried ws) (reconnectTried ws) refl refl
+sample-limiters : (v : Values) (xs : List Line) (ws : List Watched) → afterSample v xs ws .values .limiters ≡ v .limiters
+sample-limiters v xs ws = go (disconnectTried ws) (reconnectTried ws) refl refl
   where
-    go : (x y : Bool) → disconnectTried ws ≡ x → reconnectTried ws ≡ y → afterSample v ws .values .limiters ≡ v .limiters
-    go true y a b = rw a (moving-limiters v (gathered (firedLines v) ws) (decided v request.LocalDisconnect))
-    go false true a b = rw (a, b) (moving-limiters v (gathered (firedLines v) ws) (decided v request.LocalReconnect))
+    go : (x y : Bool) → disconnectTried ws ≡ x → reconnectTried ws ≡ y → afterSample v xs ws .values .limiters ≡ v .limiters
+    go true y a b = rw a (moving-limiters v (xs ++ gathered (firedLines v) ws) (decided v request.LocalDisconnect))
+    go false true a b = rw (a, b) (moving-limiters v (xs ++ gathered (firedLines v) ws) (decided v request.LocalReconnect))
     go false false a b = rw (a, b)
 
 effect-number : (v : Values) (e : Effect) → length (effectResult v e .values .limiters) ≡ length (v .limiters)
 unfolding sampleResult
 effect-number v (sampled ps) =
-    let ws = sampledEach (v .limiters) ps in
-    ap length (sample-limiters (withLimiters (withClock v (held (v .clock + 1))) (map (λ w. w .limiter) ws)) ws)
+    let now = held (v .clock + 1) in
+    let during = started now (v .emergency) in
+    let ws = sampledEach (v .emergency) during (ended during) (v .limiters) ps in
+    let next = withEmergency (withLimiters (withClock v now) (map (λ w. w .limiter) ws)) (ended during) in
+    ap length (sample-limiters next (changeLines next (map (sameThreshold (v .emergency) during) (v .limiters))) ws)
     ∙ length-map ws (λ w. w .limiter)
     ∙ length-each 0 _ (v .limiters)
 effect-number v (requested q) =
@@ -60,10 +64,12 @@ effect-number v (filterSet errors n) = refl
 effect-number v (bitsCleared alarms n) = refl
 effect-number v (bitsCleared errors n) = refl
 effect-number v (logCleared n) = refl
+effect-number v (groupsSet g) = refl
+effect-number v (profileSet w) = length-map (v .limiters) _
 
 pub number-kept : (rows : List EventRow) (s : State) (c : AnyCall)
     → length (afterResult s (result rows (s .values) c) .values .limiters) ≡ length (s .values .limiters)
-number-kept rows s c = rw (by-reading rows (s .values) c) (go (reading rows (s .values .control .mode) c))
+number-kept rows s c = rw (by-reading rows (s .values) c) (go (reading rows (s .values .control .mode) (groupsIn (s .values .emergency)) c))
   where
     go : (x : Reading) → length (afterResult s (readResult (s .values) x) .values .limiters) ≡ length (s .values .limiters)
     go (refused n) = refl

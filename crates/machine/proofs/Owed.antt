@@ -3,7 +3,7 @@ use Prim.Native.Nat.{ℕ}
 use native.Mathlib.Omega.{arith}
 use mathlib.Core.Path.{_≡_, refl, sym, _∙_, subst}
 use mathlib.Core.Bool.{Bool, true, false, _&&_, cond}
-use mathlib.Core.List.{List, []}
+use mathlib.Core.List.{List, [], _∷_}
 use lib.Dec.{eqb}
 use borrow.Author.Tests.{ne-eqb}
 use Rattle.base.specs.Numbers.{held}
@@ -11,13 +11,15 @@ use Rattle.events.specs.Line.{Line, isLog}
 use Rattle.calls.specs.declared.Letter.{Letter}
 use Rattle.logs.proofs.Numbers.{log-least}
 use Rattle.history.specs.Effects.{AnyFresh, alarms, errors, Effect, sampled, requested, modeSet, limitsSet, clockSet, occurred, filterSet, bitsCleared}
-use Rattle.history.specs.Effects.{logCleared}
-use Rattle.history.specs.Last.{History, last, samplesSince, modeOf}
-use Rattle.history.specs.Logs.{when, moves, owedBy, clearsLog}
+use Rattle.history.specs.Effects.{logCleared, groupsSet, profileSet, Profile}
+use Rattle.history.specs.Last.{History, last, samplesSince, modeOf, clockOf}
+use Rattle.history.specs.Profile.{thresholdInForce}
+use Rattle.history.specs.Logs.{when, moves, changeLines, owedBy, clearsLog}
 use Rattle.machine.specs.Values.{Values}
-use Rattle.machine.specs.Machine.{owing, lettered}
+use Rattle.machine.specs.Machine.{owing, lettered, profiled}
 use Rattle.machine.specs.Ranges.{AnySettings}
-use Rattle.machine.proofs.Effects.{effectResult, Proper, AllProper, heldValues}
+use Rattle.machine.proofs.Effects.{effectResult, Proper, AllProper, heldEmergency, heldValues}
+use Rattle.machine.proofs.Profile.{replacing, in-force-before, in-force-replaced, changed-lines}
 use Rattle.machine.proofs.Clock.{clock-part}
 use Rattle.machine.proofs.Switch.{requested-result, mode-result, sampled-result}
 use Rattle.machine.proofs.Lines.{Owing}
@@ -44,6 +46,15 @@ module _ (f : AnyFresh) (e : Effect) (h : History) where
       → Owing f e h (lettered x (owing s n xs))
   owing-lines s x n xs c o = record { lines = λ k l. o k; cleared = λ k l. not-zero k l ∙ sym (c k) }
 
+-- a profile over another
+profiled-lines : (f : AnyFresh) (h : History) (m : ℕ) (w : Profile)
+    → profiled (heldValues f h (held m)) w .lines
+    ≡ changeLines f (clockOf f (profileSet w ∷ h)) (λ k. thresholdInForce f k h) (λ k. thresholdInForce f k (profileSet w ∷ h))
+unfolding last samplesSince
+profiled-lines f h m w =
+    changed-lines f h (heldEmergency f h) (replacing f h w) (λ k. thresholdInForce f k h) (λ k. thresholdInForce f k (profileSet w ∷ h))
+    (in-force-before f h) (in-force-replaced f h w) (heldValues f h (held m))
+
 module _ (f : AnyFresh) (h : History) (m : ℕ) (t : AnySettings f) (all : AllProper f h) where
   pub owing-after : (e : Effect) → Proper (modeOf f h) e → Owing f e h (effectResult (heldValues f h (held m)) e)
   unfolding last samplesSince
@@ -67,3 +78,5 @@ module _ (f : AnyFresh) (h : History) (m : ℕ) (t : AnySettings f) (all : AllPr
   owing-after (bitsCleared alarms n) g = owing-lines f (bitsCleared alarms n) h _ _ 1 _ (λ k. refl) (λ k. when-one (eqb k 1) _)
   owing-after (bitsCleared errors n) g = owing-lines f (bitsCleared errors n) h _ _ 1 _ (λ k. refl) (λ k. when-one (eqb k 1) _)
   owing-after (logCleared n) g = record { lines = λ k l. when-one (eqb k n) _; cleared = λ k l. refl }
+  owing-after (groupsSet ids) g = owing-lines f (groupsSet ids) h _ _ 0 [] (λ k. refl) (λ k. when-none (eqb k 0))
+  owing-after (profileSet w) g = owing-lines f (profileSet w) h _ _ 3 _ (λ k. refl) (λ k. rw (profiled-lines f h m w) (when-one (eqb k 3) _))

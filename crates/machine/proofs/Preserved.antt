@@ -1,13 +1,17 @@
 -- Every call keeps sound values sound, and those of a fresh meter are sound.
 use mathlib.Core.Path.{_≡_, refl}
 use mathlib.Core.Bool.{Bool, true, false, _&&_, not, cond, or-true}
-use mathlib.Core.List.{List, [], _∷_, map}
+use mathlib.Core.List.{List, [], _∷_, _++_, map}
 use mathlib.Core.Option.{Option, none, some}
-use Prim.Native.Nat.{ℕ, suc}
+use Prim.Native.Nat.{ℕ, suc, _+_}
+use native.Mathlib.Omega.{arith}
 use lib.Dec.{eqb, leb}
 use lib.IntN.{ℤ, pos}
+use lib.ListN.{take, length-take}
 use lib.Signed.{leZ}
-use Rattle.base.specs.Tests.{among, every, below, gathered, eachFrom}
+use borrow.Author.Tests.{leb-true}
+use Rattle.base.specs.Numbers.{held}
+use Rattle.base.specs.Tests.{within, among, every, any, below, gathered, eachFrom}
 use Rattle.base.proofs.Bools.{and-left, and-right}
 use Rattle.base.proofs.Every.{every-append, among-passes}
 use Rattle.events.specs.Line.{Line, line, isLog}
@@ -24,20 +28,24 @@ use Rattle.control.specs.Control.{modeDecision, inMode, soundControl}
 use Rattle.control.proofs.Moves.{moveCodes, table-move, moved-sound, mode-moved-sound, mode-stays-sound}
 use Rattle.limiter.specs.declared.Limiter.{Limiter}
 use Rattle.limiter.specs.declared.Watched.{Watched}
-use Rattle.limiter.specs.Limiter.{isOver, isThreshold, isDuration, sampledPower, withSettings, armed, soundLimiter}
-use Rattle.limiter.proofs.Watching.{laws as limiter-laws, settings-sound, armed-sound}
+use Rattle.limiter.specs.Limiter.{isOver, isThreshold, isDuration, withSettings, armed, soundLimiter}
+use Rattle.emergency.specs.declared.Emergency.{Emergency}
+use Rattle.emergency.specs.Emergency.{groupsIn, withGroups, withProfile, started, ended, inForce, soundEmergency}
+use Rattle.limiter.proofs.Watching.{laws as limiter-laws, settings-sound, restarted-sound, armed-sound}
+use Rattle.emergency.proofs.Kept.{started-sound, ended-sound, waiting-sound, groups-sound}
 use Rattle.logs.specs.Lists.{emptied, ownLines, soundLists}
 use Rattle.logs.proofs.Kept.{appended-sound, emptied-sound}
 use Rattle.calls.specs.declared.Answer.{Answer}
 use Rattle.history.specs.Effects.{AnyFresh, alarms, errors, AnyCall, sample, request as requestCall, setMode, setLimiter, setClock, event, setFilter}
-use Rattle.history.specs.Effects.{clearBits, clearLog, script}
+use Rattle.history.specs.Effects.{clearBits, clearLog, script, Profile, setGroups, setProfile}
 use Rattle.history.specs.Last.{numberAt}
-use Rattle.machine.specs.Values.{Values, State, withControl, withLimiters}
+use Rattle.machine.specs.Values.{Values, State, withControl, withLimiters, withClock, withEmergency}
 use Rattle.machine.specs.Settings.{limitsAnswer}
 use Rattle.machine.specs.Sound.{soundValues, soundState}
 use Rattle.machine.specs.Machine.{Change, Result, refusing, making, owing, answeredWith, lineNow, moving, decided, requestOf}
 use Rattle.machine.specs.Machine.{answering, armedValues, requestResult, sampledEach, firedLines, disconnectTried, reconnectTried, afterSample}
-use Rattle.machine.specs.Machine.{sampleResult, modeResult, settingsEach, limiterResult, occurring, eventResult, clearLogResult, scriptResult, result}
+use Rattle.machine.specs.Machine.{sampleResult, modeResult, settingsEach, limiterResult, occurring, eventResult, clearLogResult, scriptResult, groupsResult}
+use Rattle.machine.specs.Machine.{sameThreshold, restartedBy, changeLines, sampledValue, followed, profileResult, result}
 use Rattle.machine.specs.Fresh.{freshLimiter, freshValues}
 use Rattle.machine.specs.Ranges.{AnySettings, AnyInRange}
 use Rattle.machine.proofs.Lists.{every-number}
@@ -85,13 +93,22 @@ unfolding every
 every-map p g q [] k h = refl
 every-map p g q (x ∷ xs) k h = rw (k x (and-left (p x) (every p xs) h)) (every-map p g q xs k (and-right (p x) (every p xs) h))
 
-sampled-sound : (n : ℕ) (ls : List Limiter) (ps : List ℤ) → every soundLimiter ls ≡ true
-    → every soundLimiter (map (λ w. w .limiter) (eachFrom n (λ k l. sampledPower l (numberAt ps k)) ls)) ≡ true
+restarted-by-sound : (x : Bool) (l : Limiter) → soundLimiter l ≡ true → soundLimiter (restartedBy x l) ≡ true
+restarted-by-sound true l h = h
+restarted-by-sound false l h = restarted-sound l h
+
+value-sound : (a b c : Emergency) (l : Limiter) (p : ℤ) → soundLimiter l ≡ true → soundLimiter (sampledValue a b c l p .limiter) ≡ true
+value-sound a b c l p h =
+    restarted-by-sound (sameThreshold b c l) _
+    (limiter-laws (restartedBy (sameThreshold a b l) l) (isOver (inForce b (l .threshold)) p) .sound (restarted-by-sound (sameThreshold a b l) l h))
+
+sampled-sound : (a b c : Emergency) (n : ℕ) (ls : List Limiter) (ps : List ℤ) → every soundLimiter ls ≡ true
+    → every soundLimiter (map (λ w. w .limiter) (eachFrom n (λ k l. sampledValue a b c l (numberAt ps k)) ls)) ≡ true
 unfolding every eachFrom
-sampled-sound n [] ps h = refl
-sampled-sound n (l ∷ ls) ps h =
-    rw (limiter-laws l (isOver (l .threshold) (numberAt ps n)) .sound (and-left (soundLimiter l) (every soundLimiter ls) h))
-    (sampled-sound (suc n) ls ps (and-right (soundLimiter l) (every soundLimiter ls) h))
+sampled-sound a b c n [] ps h = refl
+sampled-sound a b c n (l ∷ ls) ps h =
+    rw (value-sound a b c l (numberAt ps n) (and-left (soundLimiter l) (every soundLimiter ls) h))
+    (sampled-sound a b c (suc n) ls ps (and-right (soundLimiter l) (every soundLimiter ls) h))
 
 set-sound : (n : ℕ) (ls : List Limiter) (ts : List ℤ) (o u : ℕ) → ((k : ℕ) → isThreshold (numberAt ts k) ≡ true) → isDuration o ≡ true
     → isDuration u ≡ true → every soundLimiter (eachFrom n (λ k l. withSettings l (numberAt ts k) o u) ls) ≡ true
@@ -103,27 +120,35 @@ fresh-limiters : (f : AnyFresh) (ts : List ℤ) → every isThreshold ts ≡ tru
     → every soundLimiter (map (freshLimiter f) ts) ≡ true
 fresh-limiters f ts h a b = every-map isThreshold (freshLimiter f) soundLimiter ts (λ t e. settings-sound (freshLimiter f t) t (f .over) (f .under) e a b) h
 
--- ---- the values: mode and switch, and limiters
-values-of : (c : Control) (l : List Limiter) → soundControl c ≡ true → every soundLimiter l ≡ true → (soundControl c && every soundLimiter l) ≡ true
-values-of c l h k = rw (h, k)
+-- ---- the values: mode and switch, limiters, and profile and groups
+values-of : (c : Control) (l : List Limiter) (e : Emergency) → soundControl c ≡ true → every soundLimiter l ≡ true → soundEmergency e ≡ true
+    → (soundControl c && (every soundLimiter l && soundEmergency e)) ≡ true
+values-of c l e h k m = rw (h, k, m)
 
 module _ (s : Values) (h : soundValues s ≡ true) where
   control-sound : soundControl (s .control) ≡ true
   unfolding soundValues
-  control-sound = and-left (soundControl (s .control)) (every soundLimiter (s .limiters)) h
+  control-sound = and-left (soundControl (s .control)) (every soundLimiter (s .limiters) && soundEmergency (s .emergency)) h
+
+  rest-sound : every soundLimiter (s .limiters) && soundEmergency (s .emergency) ≡ true
+  unfolding soundValues
+  rest-sound = and-right (soundControl (s .control)) (every soundLimiter (s .limiters) && soundEmergency (s .emergency)) h
 
   limiters-sound : every soundLimiter (s .limiters) ≡ true
-  unfolding soundValues
-  limiters-sound = and-right (soundControl (s .control)) (every soundLimiter (s .limiters)) h
+  limiters-sound = and-left (every soundLimiter (s .limiters)) (soundEmergency (s .emergency)) rest-sound
+
+  emergency-sound : soundEmergency (s .emergency) ≡ true
+  emergency-sound = and-right (every soundLimiter (s .limiters)) (soundEmergency (s .emergency)) rest-sound
 
 -- with the limiters that a request leaves
 armed-values : (s : Values) (q : Request) → soundValues s ≡ true → soundValues (armedValues s q) ≡ true
 unfolding soundValues
 armed-values s q h =
     let sound = limiters-sound s h in
-    values-of (s .control) (armedValues s q .limiters) (control-sound s h)
+    values-of (s .control) (armedValues s q .limiters) (s .emergency) (control-sound s h)
     (armed-or-not (λ ls. every soundLimiter ls ≡ true) q (decided s q) (s .limiters) sound
     (every-map soundLimiter armed soundLimiter (s .limiters) armed-sound sound))
+    (emergency-sound s h)
 
 -- the values that a call leaves are sound, and its lines may stand in their log
 pub record SoundChange (rows : List EventRow) (k : Change) : Type 0 where
@@ -144,7 +169,7 @@ module _ (rows : List EventRow) where
       go : (d : Decision) → decided s q ≡ d → SoundChange rows (moving s xs d)
       go (Move t c b l) e =
           record {
-            values = values-of _ (s .limiters) (moved-sound _ q _ c b l e) (limiters-sound s h);
+            values = values-of _ (s .limiters) (s .emergency) (moved-sound _ q _ c b l e) (limiters-sound s h) (emergency-sound s h);
             lines =
                 every-append (λ x. mayHold rows 3 (x .code)) xs (lineNow s c ∷ []) o
                 (move-own rows (s .clock) c (table-move q _ _ t c b l e .code));
@@ -174,21 +199,83 @@ module _ (rows : List EventRow) where
       one true false = further-own rows 3 (s .clock) 66 refl refl
       one false y = refl
 
-  -- and behind them the local moves
-  firing-sound : (s : Values) (ws : List Watched) → soundValues s ≡ true → SoundChange rows (afterSample s ws)
-  firing-sound s ws h =
-      either (SoundChange rows) (disconnectTried ws)
-      (λ f. moving-sound s (gathered (firedLines s) ws) request.LocalDisconnect h (firing-own s ws))
-      (λ f. either (SoundChange rows) (reconnectTried ws)
-      (λ x. moving-sound s (gathered (firedLines s) ws) request.LocalReconnect h (firing-own s ws))
-      (λ x. record { values = h; lines = firing-own s ws }))
+  -- line 67
+  change-own : (s : Values) (xs : List Bool) → ownLines rows 3 (changeLines s xs) ≡ true
+  unfolding besides among every
+  change-own s xs = go (any not xs)
+    where
+      go : (x : Bool) → ownLines rows 3 (cond x (lineNow s 67 ∷ []) []) ≡ true
+      go true = further-own rows 3 (s .clock) 67 refl refl
+      go false = refl
+
+  both-own : (xs ys : List Line) → ownLines rows 3 xs ≡ true → ownLines rows 3 ys ≡ true → ownLines rows 3 (xs ++ ys) ≡ true
+  both-own xs ys a b = every-append (λ x. mayHold rows 3 (x .code)) xs ys a b
+
+  -- further lines behind those of a move, which are log 3's
+  followed-sound : (s : Values) (xs ys : List Line) (d : Decision) → ownLines rows 3 ys ≡ true → SoundChange rows (moving s xs d)
+      → SoundChange rows (followed (moving s xs d) ys)
+  followed-sound s xs ys (Move t c o l) q k = record { values = k .values; lines = both-own _ ys (k .lines) q }
+  followed-sound s xs ys Stay q k = record { values = k .values; lines = both-own _ ys (k .lines) q }
+  followed-sound s xs ys NotListed q k = record { values = k .values; lines = both-own _ ys (k .lines) q }
+
+  -- behind them the local moves
+  firing-sound : (s : Values) (zs ys : List Line) (ws : List Watched) → soundValues s ≡ true → ownLines rows 3 zs ≡ true → ownLines rows 3 ys ≡ true
+      → SoundChange rows (followed (afterSample s zs ws) ys)
+  firing-sound s zs ys ws h o q =
+      let xs = zs ++ gathered (firedLines s) ws in
+      let own = both-own zs (gathered (firedLines s) ws) o (firing-own s ws) in
+      either (λ r. SoundChange rows (followed r ys)) (disconnectTried ws)
+      (λ f. followed-sound s xs ys (decided s request.LocalDisconnect) q (moving-sound s xs request.LocalDisconnect h own))
+      (λ f. either (λ r. SoundChange rows (followed r ys)) (reconnectTried ws)
+      (λ x. followed-sound s xs ys (decided s request.LocalReconnect) q (moving-sound s xs request.LocalReconnect h own))
+      (λ x. record { values = h; lines = both-own xs ys own q }))
 
   sample-sound : (s : Values) (ps : List ℤ) → soundValues s ≡ true → SoundChange rows (sampleResult s ps)
   unfolding sampleResult soundValues
   sample-sound s ps h =
-      let ws = sampledEach (s .limiters) ps in
-      firing-sound _ ws
-      (values-of (s .control) (map (λ w. w .limiter) ws) (control-sound s h) (sampled-sound 0 (s .limiters) ps (limiters-sound s h)))
+      let now = held (s .clock + 1) in
+      let during = started now (s .emergency) in
+      let after = ended during in
+      let ws = sampledEach (s .emergency) during after (s .limiters) ps in
+      let next = withEmergency (withLimiters (withClock s now) (map (λ w. w .limiter) ws)) after in
+      firing-sound next _ _ ws
+      (values-of (s .control) (map (λ w. w .limiter) ws) after (control-sound s h)
+      (sampled-sound (s .emergency) during after 0 (s .limiters) ps (limiters-sound s h))
+      (ended-sound during (started-sound now (s .emergency) (emergency-sound s h))))
+      (change-own next (map (sameThreshold (s .emergency) during) (s .limiters)))
+      (change-own next (map (sameThreshold during after) (s .limiters)))
+
+  groups-result-sound : (s : Values) (n : ℕ) (ids : List ℕ) → soundValues s ≡ true → SoundResult rows (groupsResult s n ids)
+  unfolding groupsResult soundValues every
+  groups-result-sound s n ids h =
+      either (SoundResult rows) (leb n 8)
+      (λ e. record {
+        values =
+            values-of (s .control) (s .limiters) (withGroups (s .emergency) (take n ids)) (control-sound s h) (limiters-sound s h)
+            (groups-sound (s .emergency) (take n ids) (omega (arith, length-take n ids, leb-true n 8 e)) (emergency-sound s h));
+        lines = refl;
+      })
+      (λ e. tt)
+
+  profile-result-sound : (s : Values) (w : Profile) → leZ (w .threshold) (pos 2147483647) ≡ true → soundValues s ≡ true
+      → SoundResult rows (profileResult s w)
+  unfolding profileResult soundValues
+  profile-result-sound s w i h =
+      let next = withProfile (s .emergency) (w .id) (w .threshold) (w .activation) (w .duration) in
+      either (SoundResult rows) (among (groupsIn (s .emergency)) (w .id))
+      (λ e. either (SoundResult rows) (within 1 604800 (w .duration) && leZ (pos 0) (w .threshold))
+      (λ d. record {
+        values =
+            values-of (s .control) (map (λ l. restartedBy (sameThreshold (s .emergency) next l) l) (s .limiters)) next (control-sound s h)
+            (every-map soundLimiter (λ l. restartedBy (sameThreshold (s .emergency) next l) l) soundLimiter (s .limiters)
+            (λ l. restarted-by-sound (sameThreshold (s .emergency) next l) l) (limiters-sound s h))
+            (waiting-sound (s .emergency) (w .id) (w .threshold) (w .activation) (w .duration)
+            (rw (and-left (within 1 604800 (w .duration)) (leZ (pos 0) (w .threshold)) d, and-right (within 1 604800 (w .duration)) (leZ (pos 0) (w .threshold)) d, i))
+            (emergency-sound s h));
+        lines = change-own s (map (sameThreshold (s .emergency) next) (s .limiters));
+      })
+      (λ d. tt))
+      (λ e. tt)
 
   -- a mode change connects the switch with line 63, or leaves it
   mode-sound : (s : Values) (n : ℕ) → soundValues s ≡ true → SoundResult rows (modeResult s n)
@@ -202,12 +289,12 @@ module _ (rows : List EventRow) where
           → SoundChange rows (moving (withControl s (inMode (s .control) n)) [] (cond b (Move 1 63 false None) Stay))
       go k true e =
           record {
-            values = values-of _ (s .limiters) (mode-moved-sound _ (s .control .state) 63 false None k e) (limiters-sound s h);
+            values = values-of _ (s .limiters) (s .emergency) (mode-moved-sound _ (s .control .state) 63 false None k e) (limiters-sound s h) (emergency-sound s h);
             lines = further-own rows 3 (s .clock) 63 refl refl;
           }
       go k false e =
           record {
-            values = values-of _ (s .limiters) (mode-stays-sound (s .control) n (control-sound s h) k e) (limiters-sound s h);
+            values = values-of _ (s .limiters) (s .emergency) (mode-stays-sound (s .control) n (control-sound s h) k e) (limiters-sound s h) (emergency-sound s h);
             lines = refl;
           }
 
@@ -219,10 +306,11 @@ module _ (rows : List EventRow) where
       (λ a. either made (isDuration o && isDuration u)
       (λ b. record {
         values =
-            values-of (s .control) (settingsEach (s .limiters) ts o u) (control-sound s h)
+            values-of (s .control) (settingsEach (s .limiters) ts o u) (s .emergency) (control-sound s h)
             (set-sound 0 (s .limiters) ts o u
             (λ k. rw (every-number (leZ (pos 0)) ts k refl a, every-number (λ t. leZ t (pos 2147483647)) ts k refl i))
-            (and-left (isDuration o) (isDuration u) b) (and-right (isDuration o) (isDuration u) b));
+            (and-left (isDuration o) (isDuration u) b) (and-right (isDuration o) (isDuration u) b))
+            (emergency-sound s h);
         lines = further-own rows 3 (s .clock) 67 refl refl;
       })
       (λ b. tt))
@@ -277,6 +365,8 @@ module _ (rows : List EventRow) where
   result-sound all s (clearBits errors n) i h = record { values = h; lines = further-own rows 1 (s .clock) 10 refl refl }
   result-sound all s (clearLog n) i h = clear-log-sound s n h
   result-sound all s (script n) i h = script-sound s n h
+  result-sound all s (setGroups n ids) i h = groups-result-sound s n ids h
+  result-sound all s (setProfile w) i h = profile-result-sound s w (i .0) h
 
   -- ---- with the logs
   after-sound : (v : State) (r : Result) → soundState rows v ≡ true → SoundResult rows r → soundState rows (afterResult v r) ≡ true
@@ -298,6 +388,6 @@ module _ (rows : List EventRow) (all : every lawful rows ≡ true) where
 
 -- ---- the fresh meter
 pub fresh-sound : (rows : List EventRow) (f : AnyFresh) → AnySettings f → soundState rows (freshValues f) ≡ true
-unfolding soundState soundValues soundControl soundLists below every
+unfolding soundState soundValues soundControl soundEmergency soundLists below every
 fresh-sound rows f h =
     rw (h .mode, or-true, fresh-limiters f (f .thresholds) (h .thresholds) (h .over) (h .under))

@@ -1,17 +1,20 @@
--- The mode, the limiter settings and the filters of a history are in range, since each accepted call's numbers are.
-use Prim.Native.Nat.{ℕ}
+-- The mode, the limiter settings, the filters, the groups and the profile of a history are in range, since each accepted call's numbers are.
+use Prim.Native.Nat.{ℕ, _≤_}
 use native.Mathlib.Omega.{arith}
-use mathlib.Core.Path.{_≡_}
+use mathlib.Core.Path.{_≡_, refl}
 use mathlib.Core.Bool.{true}
-use mathlib.Core.List.{[], _∷_}
+use mathlib.Core.List.{List, [], _∷_}
 use mathlib.Core.Option.{Option, none, some}
 use lib.Dec.{leb}
-use Rattle.base.specs.Tests.{within}
+use borrow.Author.Tests.{leb-true}
+use Rattle.base.specs.Tests.{within, every}
+use Rattle.base.proofs.Bools.{and-left}
 use Rattle.calls.specs.Calls.{Word}
 use Rattle.history.specs.Effects.{AnyFresh, WhichRegister, alarms, errors, Effect, sampled, requested, modeSet, limitsSet, clockSet, occurred, filterSet}
-use Rattle.history.specs.Effects.{bitsCleared, logCleared}
+use Rattle.history.specs.Effects.{bitsCleared, logCleared, groupsSet, profileSet, Profile}
 use Rattle.history.specs.Last.{History, last, otherwise, modeIn, modeOf, Limits, limits, limitsIn, limitsOf, filterIn, filterOf}
-use Rattle.machine.specs.Ranges.{AnySettings}
+use Rattle.history.specs.Profile.{groupsIn, groupsOf, profileIn, profileOf}
+use Rattle.machine.specs.Ranges.{isId, AnySettings}
 use Rattle.machine.proofs.Effects.{Proper, AllProper, none as noCall, more}
 
 module _ {A : Type 0} (P : A → Type 0) where
@@ -48,6 +51,8 @@ mode-range f t = last-holds Range modeIn (f .mode) f (t .mode) each
     each (filterSet s n) h g = tt
     each (bitsCleared s n) h g = tt
     each (logCleared n) h g = tt
+    each (groupsSet ids) h g = tt
+    each (profileSet w) h g = tt
 
 -- a filter is a number of 32 bits
 pub filter-word : (x : WhichRegister) (f : AnyFresh) (h : History) → AllProper f h → Word (filterOf x h)
@@ -66,6 +71,8 @@ filter-word x f = last-holds Word (filterIn x) 0 f (omega arith) (each x)
     each errors (filterSet errors n) h g = g
     each x (bitsCleared s n) h g = tt
     each x (logCleared n) h g = tt
+    each x (groupsSet ids) h g = tt
+    each x (profileSet w) h g = tt
 
 -- 'Over and Under, 1 to 86,400'
 abbrev pub DurationsInRange : Limits → Type 0
@@ -84,3 +91,47 @@ durations-range f t = last-holds DurationsInRange limitsIn (limits (f .threshold
     each (filterSet s n) h g = tt
     each (bitsCleared s n) h g = tt
     each (logCleared n) h g = tt
+    each (groupsSet ids) h g = tt
+    each (profileSet w) h g = tt
+
+-- a profile's duration is at least 1, its id has 16 bits, its activation clock 32
+abbrev pub Kept : Option Profile → Type 0
+Kept none = Unit
+Kept (some w) = (1 ≤ w .duration) × ((isId (w .id) ≡ true) × Word (w .activation))
+
+pub profile-range : (f : AnyFresh) (h : History) → AllProper f h → Kept (profileOf h)
+profile-range f = last-holds Kept profileIn none f tt each
+  where
+    each : (e : Effect) (h : History) → Proper (modeOf f h) e → IfAny Kept (profileIn e h)
+    each (sampled p) h g = tt
+    each (requested q) h g = tt
+    each (modeSet n) h g = tt
+    each (limitsSet t o u) h g = tt
+    each (clockSet n) h g = tt
+    each (occurred r) h g = tt
+    each (filterSet s n) h g = tt
+    each (bitsCleared s n) h g = tt
+    each (logCleared n) h g = tt
+    each (groupsSet ids) h g = tt
+    each (profileSet w) h g = (leb-true 1 (w .duration) (and-left (leb 1 (w .duration)) (leb (w .duration) 604800) (g .0)), g .1)
+
+no-ids : every isId [] ≡ true
+unfolding every
+no-ids = refl
+
+-- group ids have 16 bits
+pub groups-range : (f : AnyFresh) (h : History) → AllProper f h → every isId (groupsOf h) ≡ true
+groups-range f = last-holds (λ ids. every isId ids ≡ true) groupsIn [] f no-ids each
+  where
+    each : (e : Effect) (h : History) → Proper (modeOf f h) e → IfAny (λ ids. every isId ids ≡ true) (groupsIn e h)
+    each (sampled p) h g = tt
+    each (requested q) h g = tt
+    each (modeSet n) h g = tt
+    each (limitsSet t o u) h g = tt
+    each (clockSet n) h g = tt
+    each (occurred r) h g = tt
+    each (filterSet s n) h g = tt
+    each (bitsCleared s n) h g = tt
+    each (logCleared n) h g = tt
+    each (groupsSet ids) h g = g
+    each (profileSet w) h g = tt

@@ -17,7 +17,7 @@ use Rattle.registers.specs.Register.{raised, cleared, withFilter}
 use Rattle.events.specs.Table.{EventRow, lookup, mask, lawful}
 use Rattle.events.proofs.Rule.{row-alarm, row-error}
 use Rattle.history.specs.Effects.{AnyFresh, WhichRegister, alarms, errors, Effect, sampled, requested, modeSet, limitsSet, clockSet, occurred, filterSet}
-use Rattle.history.specs.Effects.{bitsCleared, logCleared}
+use Rattle.history.specs.Effects.{bitsCleared, logCleared, groupsSet, profileSet}
 use Rattle.history.specs.Last.{History, last, modeOf, filterOf}
 use Rattle.history.specs.Registers.{bitIn, isBit, stands}
 use Rattle.machine.specs.Values.{Values, withControl, withLimiters}
@@ -106,6 +106,8 @@ module _ (f : AnyFresh) (h : History) (s : Values) (all : AllProper f h) where
   register-part alarms (bitsCleared errors n) g same = same
   register-part errors (bitsCleared errors n) g same = clear-side errors h (s .errors) same n (bit n) (sym (number-bits 32 n (omega arith)))
   register-part x (logCleared n) g same = same
+  register-part x (groupsSet ids) g same = same-side x (otherParts s (groupsSet ids)) s refl refl ∙ same
+  register-part x (profileSet w) g same = same-side x (otherParts s (profileSet w)) s refl refl ∙ same
 
   pub register-after : (x : WhichRegister) (e : Effect) → Proper (modeOf f h) e → sideOf x s ≡ registerOf x h
       → sideOf x (effectResult s e .values) ≡ registerOf x (e ∷ h)

@@ -12,26 +12,33 @@ use Rattle.base.specs.Tests.{every}
 use Rattle.events.specs.Line.{newest}
 use Rattle.events.specs.Table.{EventRow, lawful}
 use Rattle.calls.specs.Calls.{Word}
-use Rattle.history.specs.Effects.{AnyFresh, AnyCall, alarms, errors, Effect, Reading, refused, accepted, reading}
+use Rattle.history.specs.Effects.{AnyFresh, AnyCall, alarms, errors, Effect, Reading, refused, accepted, reading, sampled, requested, modeSet, limitsSet, clockSet, occurred, filterSet, bitsCleared, logCleared, groupsSet, profileSet}
 use Rattle.history.specs.Last.{History, last, samplesSince, modeOf}
+use Rattle.history.specs.Profile.{groupsOf, clocksSince, ProfileState, noProfile, waiting, active, profileState}
+use Rattle.history.proofs.Profiles.{profile-waits}
+use Rattle.emergency.specs.Emergency.{padded, groupsIn, withGroups, withProfile}
 use Rattle.history.specs.Limiter.{exceeded, trailing, sinceSetting, monitoredValues}
 use Rattle.history.specs.Switch.{spell, observations, switchOf}
 use Rattle.history.specs.Registers.{stands}
 use Rattle.history.specs.Logs.{owed}
 use Rattle.history.specs.Letters.{letterRead, letterAfter}
 use Rattle.history.specs.Account.{monitoredOf, grown, acceptedCalls, opens, openings, accountOf, accountAfter}
-use Rattle.machine.specs.Values.{State}
+use Rattle.machine.specs.Values.{Values, State}
 use Rattle.machine.specs.Sound.{soundState}
 use Rattle.machine.specs.Machine.{stateAfter, result}
 use Rattle.machine.specs.Ranges.{AnySettings, AnyInRange, AllAnyInRange}
 use Rattle.machine.specs.Fresh.{freshLimiter, freshValues}
-use Rattle.machine.specs.Holding.{limiterHolding, valuesHolding}
+use Rattle.machine.specs.Holding.{limiterHolding, emergencyOf, valuesHolding}
 use Rattle.machine.proofs.Lists.{map-map, by-number}
-use Rattle.machine.proofs.Effects.{effectResult, readResult, Proper, AllProper, none, more, heldLimiters, heldValues, nextOpenings}
+use Rattle.machine.proofs.Effects.{effectResult, readResult, Proper, AllProper, none, more, heldLimiters, heldEmergency, heldValues}
+use Rattle.machine.proofs.Effects.{nextOpenings}
 use Rattle.machine.specs.Laws.{afterResult, stateAfterCalls, letterIn, Laws}
 use Rattle.machine.proofs.Answers.{by-reading, proper}
+use Rattle.machine.proofs.Ranges.{groups-range}
+use Rattle.machine.proofs.Profile.{profile-sampled, groups-back}
 use Rattle.machine.proofs.Preserved.{kept-sound, fresh-sound}
 use Rattle.machine.proofs.Clock.{clock-after}
+use Rattle.machine.proofs.OtherParts.{otherParts, values-after}
 use Rattle.machine.proofs.Registers.{register-after}
 use Rattle.machine.proofs.Switch.{control-kept, limiters-after, letter-after}
 use Rattle.machine.proofs.Lines.{logs-after}
@@ -49,9 +56,41 @@ held-stated : (f : AnyFresh) (h : History) (n : ℕ) → valuesHolding (accountO
 held-stated f h n =
     let v = stated f h n .values in
     λ i. record {
-      values = record { control = v .control; limiters = limiters-held f h n i; clock = v .clock; alarms = v .alarms; errors = v .errors };
+      values = record { control = v .control; limiters = limiters-held f h n i; clock = v .clock; alarms = v .alarms; errors = v .errors; emergency = v .emergency };
       logs = stated f h n .logs;
     }
+
+-- groups and profile after any accepted call
+emergency-after : (f : AnyFresh) (h : History) (n : ℕ) → AllProper f h → (e : Effect)
+    → effectResult (heldValues f h (held n)) e .values .emergency ≡ heldEmergency f (e ∷ h)
+unfolding last clocksSince
+emergency-after f h n all e = ap (λ (v : Values). v .emergency) (values-after (heldValues f h (held n)) e) ∙ go e
+  where
+    go : (e : Effect) → otherParts (heldValues f h (held n)) e .emergency ≡ heldEmergency f (e ∷ h)
+    go (sampled ps) = profile-sampled f h ps all
+    go (requested q) = refl
+    go (modeSet m) = refl
+    go (limitsSet ts o u) = refl
+    go (clockSet t) = refl
+    go (occurred r) = refl
+    go (filterSet alarms m) = refl
+    go (filterSet errors m) = refl
+    go (bitsCleared alarms m) = refl
+    go (bitsCleared errors m) = refl
+    go (logCleared m) = refl
+    go (groupsSet g) = grouped (profileState f h)
+      where
+        grouped : (x : ProfileState) → withGroups (emergencyOf (groupsOf h) x) g ≡ emergencyOf g x
+        grouped noProfile = refl
+        grouped (waiting w) = refl
+        grouped (active w k) = refl
+    go (profileSet w) = replaced (profileState f h) ∙ ap (emergencyOf (groupsOf h)) (sym (profile-waits f h w))
+      where
+        replaced : (x : ProfileState)
+            → withProfile (emergencyOf (groupsOf h) x) (w .id) (w .threshold) (w .activation) (w .duration) ≡ emergencyOf (groupsOf h) (waiting w)
+        replaced noProfile = refl
+        replaced (waiting v) = refl
+        replaced (active v k) = refl
 
 -- one more accepted call
 stated-after : (f : AnyFresh) (h : History) (e : Effect) (n : ℕ) → AnySettings f → AllProper f h → Proper (modeOf f h) e
@@ -66,6 +105,7 @@ stated-after f h e n t all g =
             clock = clock-after f h s refl e g i;
             alarms = register-after f h s all alarms e g refl i;
             errors = register-after f h s all errors e g refl i;
+            emergency = emergency-after f h n all e i;
           };
       logs = logs-after f e h (effectResult s e) (owing-after f h n t all e g) i;
     }
@@ -79,7 +119,7 @@ effect-after f h e n t all g =
 
 -- no call: a fresh meter's values are those that the account of no call names
 pub fresh-values : (f : AnyFresh) → AnySettings f → freshValues f ≡ valuesHolding (accountOf f [] 0)
-unfolding last samplesSince observations exceeded trailing sinceSetting spell switchOf stands number owed newest
+unfolding last samplesSince observations exceeded trailing sinceSetting spell switchOf stands number owed newest padded
 fresh-values f t =
     let v = freshValues f in
     λ i. record {
@@ -90,6 +130,7 @@ fresh-values f t =
             clock = word (f .clock) (t .clock) i;
             alarms = v .values .alarms;
             errors = v .values .errors;
+            emergency = v .values .emergency;
           };
       logs = v .logs;
     }
@@ -119,7 +160,7 @@ module _ (rows : List EventRow) (table : every lawful rows ≡ true) (f : AnyFre
   pub all-proper : (cs : List AnyCall) → AllAnyInRange cs → AllProper f (acceptedCalls rows f cs)
   unfolding acceptedCalls
   all-proper [] i = none
-  all-proper (c ∷ cs) i = go (reading rows m c) refl (all-proper cs (i .1))
+  all-proper (c ∷ cs) i = go (reading rows m gs c) refl (all-proper cs (i .1))
     where
       h : History
       h = acceptedCalls rows f cs
@@ -127,15 +168,19 @@ module _ (rows : List EventRow) (table : every lawful rows ≡ true) (f : AnyFre
       m : ℕ
       m = modeOf f h
 
-      go : (x : Reading) → reading rows m c ≡ x → AllProper f h → AllProper f (grown x h)
+      gs : List ℕ
+      gs = groupsOf h
+
+      go : (x : Reading) → reading rows m gs c ≡ x → AllProper f h → AllProper f (grown x h)
       go (refused n) e a = a
-      go (accepted x) e a = more (proper rows table m c x (i .0) e) a
+      go (accepted x) e a = more (proper rows table m gs (groups-range f h a) c x (i .0) e) a
 
   -- one more call, accepted or refused
   pub next : (c : AnyCall) (cs : List AnyCall) → AnyInRange c → AllAnyInRange cs
       → afterResult (named cs) (result rows (named cs .values) c) ≡ named (c ∷ cs)
   unfolding acceptedCalls openings
-  next c cs i k = rw (by-reading rows (named cs .values) c) (go (reading rows (modeOf f h) c) refl)
+  next c cs i k =
+      rw (by-reading rows (named cs .values) c, groups-back (groupsOf h) (profileState f h)) (go (reading rows (modeOf f h) (groupsOf h) c) refl)
     where
       h : History
       h = acceptedCalls rows f cs
@@ -143,11 +188,11 @@ module _ (rows : List EventRow) (table : every lawful rows ≡ true) (f : AnyFre
       n : ℕ
       n = openings rows f cs
 
-      go : (x : Reading) → reading rows (modeOf f h) c ≡ x
+      go : (x : Reading) → reading rows (modeOf f h) (groupsOf h) c ≡ x
           → afterResult (named cs) (readResult (named cs .values) x)
           ≡ valuesHolding (accountOf f (grown x h) (cond (opens (switchOf f h) (switchOf f (grown x h))) (suc n) n))
       go (refused k) e = ap (λ (o : ℕ). valuesHolding (accountOf f h o)) (sym (refused-openings (switchOf f h) n))
-      go (accepted x) e = effect-after f h x n t (all-proper cs k) (proper rows table (modeOf f h) c x i e)
+      go (accepted x) e = effect-after f h x n t (all-proper cs k) (proper rows table (modeOf f h) (groupsOf h) (groups-range f h (all-proper cs k)) c x i e)
 
   -- the values that the account names are sound
   pub named-sound : (cs : List AnyCall) → AllAnyInRange cs → soundState rows (named cs) ≡ true
@@ -172,16 +217,18 @@ module _ (rows : List EventRow) (table : every lawful rows ≡ true) (f : AnyFre
   pub named-letter : (c : AnyCall) (cs : List AnyCall) → AnyInRange c → AllAnyInRange cs → letterIn (result rows (named cs .values) c) ≡ letterAfter rows f cs c
   named-letter c cs i k =
       ap letterIn (by-reading rows (named cs .values) c)
-      ∙ ap (λ (v : State). letterIn (readResult (v .values) (reading rows (modeOf f h) c))) (held-stated f h (openings rows f cs))
-      ∙ go (reading rows (modeOf f h) c) refl
+      ∙ ap (λ (v : State). letterIn (readResult (v .values) (reading rows (modeOf f h) (groupsIn (v .values .emergency)) c))) (held-stated f h (openings rows f cs))
+      ∙ ap (λ (gs : List ℕ). letterIn (readResult (heldValues f h (held (openings rows f cs))) (reading rows (modeOf f h) gs c)))
+      (groups-back (groupsOf h) (profileState f h))
+      ∙ go (reading rows (modeOf f h) (groupsOf h) c) refl
     where
       h : History
       h = acceptedCalls rows f cs
 
-      go : (x : Reading) → reading rows (modeOf f h) c ≡ x
+      go : (x : Reading) → reading rows (modeOf f h) (groupsOf h) c ≡ x
           → letterIn (readResult (heldValues f h (held (openings rows f cs))) x) ≡ letterRead f x h
       go (refused m) e = refl
-      go (accepted x) e = letter-after f h x (openings rows f cs) t (all-proper cs k) (proper rows table (modeOf f h) c x i e)
+      go (accepted x) e = letter-after f h x (openings rows f cs) t (all-proper cs k) (proper rows table (modeOf f h) (groupsOf h) (groups-range f h (all-proper cs k)) c x i e)
 
 pub laws : Laws
 laws =

@@ -2,9 +2,9 @@
 -- argument for every monitored value.
 use Prim.Native.Nat.{ℕ, zero, suc, _≤_}
 use native.Mathlib.Numerals.{add-one}
-use mathlib.Core.Path.{_≡_, refl, ap, sym, _∙_}
+use mathlib.Core.Path.{_≡_, refl, ap, ap₂, sym, _∙_}
 use mathlib.Core.Bool.{Bool, true, false, not, _&&_, cond, Bool·beq, and-false}
-use mathlib.Core.List.{List, [], _∷_, map}
+use mathlib.Core.List.{List, [], _∷_, _++_, map}
 use lib.Dec.{leb, leb·zero, leb·suc-zero, leb·suc-suc}
 use lib.IntN.{ℤ}
 use lib.ListN.{length, take}
@@ -13,19 +13,23 @@ use borrow.Author.Tests.{leb-true, lt-leb}
 use Rattle.base.proofs.Bools.{and-left}
 use Rattle.limiter.specs.declared.Limiter.{Limiter}
 use Rattle.limiter.specs.declared.Watched.{Watched}
-use Rattle.limiter.specs.Limiter.{watching, watched, sampledPower, withSettings, armed}
-use Rattle.history.specs.Effects.{AnyFresh, manualReconnect, sampled, requested, limitsSet}
+use Rattle.limiter.specs.Limiter.{watching, watched, withSettings, armed}
+use Rattle.emergency.specs.Emergency.{ended}
+use Rattle.base.specs.Tests.{eqZ}
+use Rattle.history.specs.Effects.{AnyFresh, Profile, manualReconnect, sampled, requested, limitsSet, profileSet}
 use Rattle.history.specs.Last.{History, Limits, last, limitsOf, thresholdOf, numberAt}
-use Rattle.history.specs.Limiter.{Observation, judged, durationOf, duration, sinceSetting, allAre, exceeded, trailing, run, monitoredValues}
+use Rattle.history.specs.Limiter.{Observation, setting, judged, durationOf, duration, sinceSetting, allAre, exceeded, trailing, run, monitoredValues}
 use Rattle.history.specs.Switch.{observations, exceededOf}
+use Rattle.history.specs.Profile.{thresholdInForce, thresholdAt}
 use Rattle.history.specs.Logs.{moves}
-use Rattle.history.proofs.Stretches.{durations-last}
+use Rattle.history.proofs.Stretches.{sample-seen, durations-last}
 use Rattle.history.proofs.Armed.{moved-arms, unmoved-unseen}
-use Rattle.machine.specs.Machine.{sampledEach, settingsEach}
+use Rattle.machine.specs.Machine.{sameThreshold, restartedBy, sampledValue, sampledEach, settingsEach}
 use Rattle.machine.specs.Ranges.{AnySettings}
 use Rattle.machine.proofs.Lists.{map-ext, map-map, each-numbered}
 use Rattle.machine.proofs.Ranges.{DurationsInRange, durations-range}
-use Rattle.machine.proofs.Effects.{AllProper, heldLimiter, heldLimiters}
+use Rattle.machine.proofs.Effects.{AllProper, heldEmergency, heldLimiter, heldLimiters}
+use Rattle.machine.proofs.Profile.{duringOf, in-force-before, in-force-at, in-force-after, replacing, in-force-replaced}
 
 -- the duration in force for over samples (true) or others (false) is at least 1
 duration-positive : (l : Limits) → DurationsInRange l → (b : Bool) → 1 ≤ durationOf b (l .over) (l .under)
@@ -77,31 +81,87 @@ watched-by t o u cs true false false h = rw (add-one, h)
 watched-by t o u cs true true true h = refl
 watched-by t o u cs true true false h = refl
 
+-- the limiter of settings, by what it has seen
+abbrev limiterSeeing : ℤ → ℕ → ℕ → List Observation → Limiter
+limiterSeeing t o u os = record { threshold = t; over = o; under = u; exceeded = exceeded os; run = run os }
+
+-- a sample
+seen-watched : (t : ℤ) (o u : ℕ) (os : List Observation) (b : Bool) → ((c : Bool) → duration c os ≡ durationOf c o u)
+    → ((c : Bool) → 1 ≤ durationOf c o u)
+    → watched (limiterSeeing t o u os) b ≡ watching (limiterSeeing t o u (judged b ∷ os)) (changes (exceeded os) (exceeded (judged b ∷ os)))
+unfolding sinceSetting
+seen-watched t o u os b same positive =
+    let cs = sinceSetting os in
+    let next : exceeded (judged b ∷ os) ≡ cond (leb (durationOf b o u) (suc (trailing b cs))) b (exceeded os) =
+    exceeded-next b os (λ c. rw (same c) (positive c)) ∙ ap (λ (n : ℕ). cond (leb n (suc (trailing b cs))) b (exceeded os)) (same b) in
+    watched-by t o u cs (exceeded os) b (leb (durationOf b o u) (suc (trailing b cs))) refl
+    ∙ ap (λ (e : Bool). watching (limiterBy t o u (b ∷ cs) e) (changes (exceeded os) e)) (sym next)
+
+-- a change of the threshold in force (x: there is none)
+abbrev changeOr : Bool → ℕ → ℕ → List Observation → List Observation
+changeOr x o u os = cond x [] (setting o u ∷ []) ++ os
+
+seen-restarted : (t : ℤ) (o u : ℕ) (os : List Observation) (x : Bool) → restartedBy x (limiterSeeing t o u os) ≡ limiterSeeing t o u (changeOr x o u os)
+unfolding exceeded sinceSetting trailing
+seen-restarted t o u os true = refl
+seen-restarted t o u os false = refl
+
+same-exceeded : (o u : ℕ) (os : List Observation) (x : Bool) → exceeded (changeOr x o u os) ≡ exceeded os
+unfolding exceeded
+same-exceeded o u os true = refl
+same-exceeded o u os false = refl
+
+same-duration : (o u : ℕ) (os : List Observation) (x c : Bool) → duration c os ≡ durationOf c o u → duration c (changeOr x o u os) ≡ durationOf c o u
+unfolding duration
+same-duration o u os true c e = e
+same-duration o u os false c e = refl
+
+-- a sample that is over or not (b), with the threshold in force the same before it (x) and after it (y)
+sampled-by : (t : ℤ) (o u : ℕ) (os : List Observation) (x y b : Bool) → ((c : Bool) → duration c os ≡ durationOf c o u)
+    → ((c : Bool) → 1 ≤ durationOf c o u)
+    → (let w = watched (restartedBy x (limiterSeeing t o u os)) b in watching (restartedBy y (w .limiter)) (w .fired))
+    ≡ (let after = changeOr y o u (judged b ∷ changeOr x o u os) in watching (limiterSeeing t o u after) (changes (exceeded os) (exceeded after)))
+sampled-by t o u os x y b same positive =
+    let before = changeOr x o u os in
+    let at = judged b ∷ before in
+    ap (λ (l : Limiter). watching (restartedBy y (watched l b .limiter)) (watched l b .fired)) (seen-restarted t o u os x)
+    ∙ ap (λ (w : Watched). watching (restartedBy y (w .limiter)) (w .fired)) (seen-watched t o u before b (λ c. same-duration o u os x c (same c)) positive)
+    ∙ ap (λ (l : Limiter). watching l (changes (exceeded before) (exceeded at))) (seen-restarted t o u at y)
+    ∙ ap₂ (λ (e e′ : Bool). watching (limiterSeeing t o u (changeOr y o u at)) (changes e e′)) (same-exceeded o u os x) (sym (same-exceeded o u at y))
+
 -- what the limiter makes of a sample of monitored value k: the limiter after it, and whether Exceeded changed
 abbrev pub watchedOf : AnyFresh → History → List ℤ → ℕ → Watched
 watchedOf f h ps k = watching (heldLimiter f (sampled ps ∷ h) k) (changes (exceededOf f k h) (exceededOf f k (sampled ps ∷ h)))
 
 -- the machine's limiter of a monitored value at a sample: the account's, and it fires exactly if Exceeded changes
 value-watched : (f : AnyFresh) (h : History) (ps : List ℤ) → AnySettings f → AllProper f h → (k : ℕ)
-    → sampledPower (heldLimiter f h k) (numberAt ps k) ≡ watchedOf f h ps k
-unfolding last observations sinceSetting
+    → sampledValue (heldEmergency f h) (duringOf f h) (ended (duringOf f h)) (heldLimiter f h k) (numberAt ps k) ≡ watchedOf f h ps k
+unfolding last
 value-watched f h ps s a k =
     let l = limitsOf f h in
-    let t = thresholdOf f k h in
-    let os = observations f k h in
-    let b = ltZ t (numberAt ps k) in
-    let cs = sinceSetting os in
-    let positive : (c : Bool) → 1 ≤ duration c os = λ c. rw (durations-last f k h c) (duration-positive l (durations-range f s h a) c) in
-    let next : exceeded (judged b ∷ os) ≡ cond (leb (durationOf b (l .over) (l .under)) (suc (trailing b cs))) b (exceeded os) =
-    exceeded-next b os positive ∙ ap (λ (n : ℕ). cond (leb n (suc (trailing b cs))) b (exceeded os)) (durations-last f k h b) in
-    watched-by t (l .over) (l .under) cs (exceeded os) b (leb (durationOf b (l .over) (l .under)) (suc (trailing b cs))) refl
-    ∙ ap (λ (e : Bool). watching (limiterBy t (l .over) (l .under) (b ∷ cs) e) (changes (exceeded os) e)) (sym next)
+    rw (in-force-before f h k, in-force-at f h ps a k, in-force-after f h ps a k, sample-seen f k ps h)
+    (sampled-by (thresholdOf f k h) (l .over) (l .under) (observations f k h)
+    (eqZ (thresholdInForce f k h) (thresholdAt f k ps h)) (eqZ (thresholdAt f k ps h) (thresholdInForce f k (sampled ps ∷ h)))
+    (ltZ (thresholdAt f k ps h) (numberAt ps k)) (durations-last f k h) (duration-positive l (durations-range f s h a)))
 
 -- all of them
 pub sampled-watched : (f : AnyFresh) (h : History) (ps : List ℤ) → AnySettings f → AllProper f h
-    → sampledEach (heldLimiters f h) ps ≡ map (watchedOf f h ps) (monitoredValues f)
+    → sampledEach (heldEmergency f h) (duringOf f h) (ended (duringOf f h)) (heldLimiters f h) ps ≡ map (watchedOf f h ps) (monitoredValues f)
 sampled-watched f h ps s a =
-    each-numbered 0 (length (f .thresholds)) (λ k l. sampledPower l (numberAt ps k)) (heldLimiter f h) (watchedOf f h ps) (value-watched f h ps s a)
+    each-numbered 0 (length (f .thresholds)) (λ k l. sampledValue (heldEmergency f h) (duringOf f h) (ended (duringOf f h)) l (numberAt ps k))
+    (heldLimiter f h) (watchedOf f h ps) (value-watched f h ps s a)
+
+-- ---- a profile over another
+pub limiters-replaced : (f : AnyFresh) (h : History) (w : Profile)
+    → map (λ l. restartedBy (sameThreshold (heldEmergency f h) (replacing f h w) l) l) (heldLimiters f h) ≡ heldLimiters f (profileSet w ∷ h)
+unfolding last observations
+limiters-replaced f h w =
+    map-map (λ l. restartedBy (sameThreshold (heldEmergency f h) (replacing f h w) l) l) (heldLimiter f h) (monitoredValues f)
+    ∙ map-ext _ (heldLimiter f (profileSet w ∷ h)) (monitoredValues f)
+    (λ k.
+    ap₂ (λ (x y : ℤ). restartedBy (eqZ x y) (heldLimiter f h k)) (in-force-before f h k) (in-force-replaced f h w k)
+    ∙ seen-restarted (thresholdOf f k h) (limitsOf f h .over) (limitsOf f h .under) (observations f k h)
+    (eqZ (thresholdInForce f k h) (thresholdInForce f k (profileSet w ∷ h))))
 
 -- ---- a setting
 pub limiters-limited : (f : AnyFresh) (h : History) (ts : List ℤ) (o u : ℕ)

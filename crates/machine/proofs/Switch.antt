@@ -3,7 +3,7 @@ use Prim.Native.Nat.{ℕ, suc, _+_}
 use native.Mathlib.Omega.{arith}
 use mathlib.Core.Path.{_≡_, refl, ap, ap₂, _∙_}
 use mathlib.Core.Bool.{Bool, true, false, not, _&&_, _||_, cond, Bool·beq, and-not-self}
-use mathlib.Core.List.{List, [], _∷_, _++_, map, append-nil}
+use mathlib.Core.List.{List, [], _∷_, _++_, map, append-nil, append-assoc}
 use mathlib.Core.Option.{none as nothing, some}
 use lib.Dec.{eqb, leb}
 use lib.IntN.{ℤ}
@@ -26,23 +26,27 @@ use Rattle.control.specs.Control.{orStay, decision, modeDecision, movedTo}
 use Rattle.control.proofs.Answers.{answered, rows}
 use Rattle.limiter.specs.declared.Limiter.{Limiter}
 use Rattle.limiter.specs.declared.Watched.{Watched}
+use Rattle.emergency.specs.declared.Emergency.{Emergency}
+use Rattle.emergency.specs.Emergency.{ended}
 use Rattle.history.specs.Effects.{AnyFresh, RequestCall, remoteDisconnect, remoteReconnect, manualDisconnect, manualReconnect, alarms, errors, Effect}
-use Rattle.history.specs.Effects.{sampled, requested, modeSet, limitsSet, clockSet, occurred, filterSet, bitsCleared, logCleared, listedModes}
+use Rattle.history.specs.Effects.{sampled, requested, modeSet, limitsSet, clockSet, occurred, filterSet, bitsCleared, logCleared, groupsSet, profileSet, listedModes}
 use Rattle.history.specs.Last.{History, otherwise, given, last, modeOf, clockOf}
+use Rattle.history.specs.Profile.{thresholdInForce, thresholdAt}
 use Rattle.history.specs.Limiter.{firesOver, firesUnder, monitoredValues}
 use Rattle.history.specs.Switch.{spell, observations, lastDecided, switchOf, exceededOf}
-use Rattle.history.specs.Logs.{when, moves, requestCode, localCode}
+use Rattle.history.specs.Logs.{when, moves, requestCode, localCode, changeLines as owedChange}
 use Rattle.history.specs.Account.{opens}
 use Rattle.history.specs.Letters.{requestLetter, localLetter, moveLetter, letterOf}
 use Rattle.history.proofs.Letters.{OneOrTwo, one, two, triedG, triedH, last-decided}
-use Rattle.machine.specs.Values.{Values, withControl, withLimiters, withClock}
+use Rattle.machine.specs.Values.{Values, withControl, withLimiters, withClock, withEmergency}
 use Rattle.machine.specs.Machine.{Change, owing, lettered, lineNow, moving, decided, armedBy, requestOf, firedLines, disconnectTried, reconnectTried}
-use Rattle.machine.specs.Machine.{afterSample, sampleResult}
+use Rattle.machine.specs.Machine.{sameThreshold, changeLines, afterSample, followed, sampleResult}
 use Rattle.machine.specs.Ranges.{AnySettings}
 use Rattle.machine.proofs.Lists.{map-map, any-map, any-ext, gathered-map, gathered-ext}
 use Rattle.machine.proofs.Ranges.{mode-range}
-use Rattle.machine.proofs.Effects.{effectResult, Proper, AllProper, heldControl, heldLimiters, heldValues, nextOpenings}
-use Rattle.machine.proofs.Stretches.{changes, watchedOf, sampled-watched, limiters-limited, limiters-armed, limiters-unarmed}
+use Rattle.machine.proofs.Effects.{effectResult, Proper, AllProper, heldControl, heldLimiters, heldEmergency, heldValues, nextOpenings}
+use Rattle.machine.proofs.Profile.{nowOf, duringOf, profile-sampled, in-force-before, in-force-at, in-force-after, changed-lines}
+use Rattle.machine.proofs.Stretches.{changes, watchedOf, sampled-watched, limiters-limited, limiters-replaced, limiters-armed, limiters-unarmed}
 
 -- every request lists modes 1 to 6 only, a manual disconnect 1, 2 and 5
 listed-mode : (q : RequestCall) (m : ℕ) → among (listedModes q) m ≡ true → within 1 6 m ≡ true
@@ -363,21 +367,22 @@ module _ (f : AnyFresh) (h : History) (ps : List ℤ) where
       gathered-map (firedLines s) (watchedOf f h ps) (monitoredValues f)
       ∙ gathered-ext _ _ (monitoredValues f) (λ k. firing-line (s .clock) (exceededOf f k h) (exceededOf f k (sampled ps ∷ h)))
 
-after-sample : (s : Values) (ws : List Watched) (g h : Bool) (xs : List Line) (to : ℕ) → disconnectTried ws ≡ g → reconnectTried ws ≡ h
+after-sample : (s : Values) (zs : List Line) (ws : List Watched) (g h : Bool) (xs : List Line) (to : ℕ) → disconnectTried ws ≡ g → reconnectTried ws ≡ h
     → gathered (firedLines s) ws ≡ xs
     → (g ≡ true → orStay (decided s request.LocalDisconnect) ≡ change (s .control .state) to (localCode to) (localLetter to))
     → (g ≡ false → h ≡ true → orStay (decided s request.LocalReconnect) ≡ change (s .control .state) to (localCode to) (localLetter to))
     → (g ≡ false → h ≡ false → to ≡ s .control .state)
-    → afterSample s ws
+    → afterSample s zs ws
     ≡ lettered (cond (not (eqb (s .control .state) to)) (localLetter to) None)
-    (owing (withControl s (switchedTo (s .control) to)) 3 (xs ++ when (not (eqb (s .control .state) to)) (lineNow s (localCode to) ∷ [])))
-after-sample s ws true h xs to p q r over under stays =
-    rw (p, r) (moving-switched s xs (decided s request.LocalDisconnect) to (localCode to) (localLetter to) (over refl))
-after-sample s ws false true xs to p q r over under stays =
-    rw (p, q, r) (moving-switched s xs (decided s request.LocalReconnect) to (localCode to) (localLetter to) (under refl refl))
-after-sample s ws false false xs to p q r over under stays =
+    (owing (withControl s (switchedTo (s .control) to)) 3
+    ((zs ++ xs) ++ when (not (eqb (s .control .state) to)) (lineNow s (localCode to) ∷ [])))
+after-sample s zs ws true h xs to p q r over under stays =
+    rw (p, r) (moving-switched s (zs ++ xs) (decided s request.LocalDisconnect) to (localCode to) (localLetter to) (over refl))
+after-sample s zs ws false true xs to p q r over under stays =
+    rw (p, q, r) (moving-switched s (zs ++ xs) (decided s request.LocalReconnect) to (localCode to) (localLetter to) (under refl refl))
+after-sample s zs ws false false xs to p q r over under stays =
     rw (p, q, r)
-    (moving-switched s xs Stay to (localCode to) (localLetter to) (unchanged (s .control .state) to (localCode to) (localLetter to) (stays refl refl)))
+    (moving-switched s (zs ++ xs) Stay to (localCode to) (localLetter to) (unchanged (s .control .state) to (localCode to) (localLetter to) (stays refl refl)))
   where
     unchanged : (from to code : ℕ) (x : Letter) → to ≡ from → Stay ≡ change from to code x
     unchanged from to code x e = rw (e, eq-eqb from from refl)
@@ -386,29 +391,55 @@ after-sample s ws false false xs to p q r over under stays =
 abbrev pub sampledValues : AnyFresh → History → List ℤ → ℕ → Values
 sampledValues f h ps n =
     withControl
-    (withLimiters (withClock (heldValues f h (held n)) (held (clockOf f h + 1))) (heldLimiters f (sampled ps ∷ h)))
+    (withEmergency (withLimiters (withClock (heldValues f h (held n)) (nowOf f h)) (heldLimiters f (sampled ps ∷ h))) (heldEmergency f (sampled ps ∷ h)))
     (heldControl f (sampled ps ∷ h) (held (nextOpenings f (sampled ps) h n)))
+
+-- the lines of a sample; `now` is the clock after it
+abbrev pub sampleLines : AnyFresh → History → List ℤ → ℕ → List Line
+sampleLines f h ps now =
+    owedChange f now (λ k. thresholdInForce f k h) (λ k. thresholdAt f k ps h)
+    ++ (owedFirings f h ps now
+    ++ (when (moves f (sampled ps) h) (line now (localCode (switchOf f (sampled ps ∷ h))) ∷ [])
+    ++ owedChange f now (λ k. thresholdAt f k ps h) (λ k. thresholdInForce f k (sampled ps ∷ h))))
+
+bracketed : (a b c d : List Line) → ((a ++ b) ++ c) ++ d ≡ a ++ (b ++ (c ++ d))
+bracketed a b c d = append-assoc (a ++ b) c d ∙ append-assoc a b (c ++ d)
+
+-- a sample, by what the limiter makes of it, its limiters and its profile after it
+abbrev sampleBy : Values → ℕ → Emergency → List Watched → List Limiter → Emergency → Change
+sampleBy v now during ws ls after =
+    let next = withEmergency (withLimiters (withClock v now) ls) after in
+    followed (afterSample next (changeLines next (map (sameThreshold (v .emergency) during) (v .limiters))) ws)
+    (changeLines next (map (sameThreshold during (ended during)) (v .limiters)))
 
 pub sampled-result : (f : AnyFresh) (h : History) (ps : List ℤ) (n : ℕ) → AnySettings f → AllProper f h
     → effectResult (heldValues f h (held n)) (sampled ps)
-    ≡ lettered (letterOf f (sampled ps) h) (owing (sampledValues f h ps n) 3
-    (owedFirings f h ps (held (clockOf f h + 1))
-    ++ when (moves f (sampled ps) h) (line (held (clockOf f h + 1)) (localCode (switchOf f (sampled ps ∷ h))) ∷ [])))
+    ≡ lettered (letterOf f (sampled ps) h) (owing (sampledValues f h ps n) 3 (sampleLines f h ps (nowOf f h)))
 unfolding last sampleResult
 sampled-result f h ps n s a =
-    let now = held (clockOf f h + 1) in
-    let before = withClock (heldValues f h (held n)) now in
+    let now = nowOf f h in
+    let v = heldValues f h (held n) in
+    let during = duringOf f h in
     let ws = map (watchedOf f h ps) (monitoredValues f) in
-    let next = withLimiters before (heldLimiters f (sampled ps ∷ h)) in
+    let next = withEmergency (withLimiters (withClock v now) (heldLimiters f (sampled ps ∷ h))) (heldEmergency f (sampled ps ∷ h)) in
     let to = switchOf f (sampled ps ∷ h) in
-    ap (λ (ws : List Watched). afterSample (withLimiters before (map (λ w. w .limiter) ws)) ws) (sampled-watched f h ps s a)
-    ∙ ap (λ (ls : List Limiter). afterSample (withLimiters before ls) ws) (map-map (λ w. w .limiter) (watchedOf f h ps) (monitoredValues f))
-    ∙ after-sample next ws (triedG f h ps) (triedH f h ps) (owedFirings f h ps now) to
+    let zs = owedChange f now (λ k. thresholdInForce f k h) (λ k. thresholdAt f k ps h) in
+    let ys = owedChange f now (λ k. thresholdAt f k ps h) (λ k. thresholdInForce f k (sampled ps ∷ h)) in
+    ap (λ (ws : List Watched). sampleBy v now during ws (map (λ w. w .limiter) ws) (ended during)) (sampled-watched f h ps s a)
+    ∙ ap₂ (λ (ls : List Limiter) (x : Emergency). sampleBy v now during ws ls x)
+    (map-map (λ w. w .limiter) (watchedOf f h ps) (monitoredValues f)) (profile-sampled f h ps a)
+    ∙ ap₂ (λ (zs ys : List Line). followed (afterSample next zs ws) ys)
+    (changed-lines f h (heldEmergency f h) during (λ k. thresholdInForce f k h) (λ k. thresholdAt f k ps h)
+    (in-force-before f h) (in-force-at f h ps a) next)
+    (changed-lines f h during (ended during) (λ k. thresholdAt f k ps h) (λ k. thresholdInForce f k (sampled ps ∷ h))
+    (in-force-at f h ps a) (in-force-after f h ps a) next)
+    ∙ ap (λ (r : Change). followed r ys)
+    (after-sample next zs ws (triedG f h ps) (triedH f h ps) (owedFirings f h ps now) to
     (tries-g f h ps) (tries-h f h ps) (fires-lines f h ps next)
-    (over-switches f h ps s a) (under-switches f h ps s a) (sample-switches f h ps)
-    ∙ ap (λ c. lettered (letterOf f (sampled ps) h)
-    (owing (withControl next c) 3 (owedFirings f h ps now ++ when (moves f (sampled ps) h) (line now (localCode to) ∷ []))))
+    (over-switches f h ps s a) (under-switches f h ps s a) (sample-switches f h ps))
+    ∙ ap₂ (λ (c : Control) (xs : List Line). lettered (letterOf f (sampled ps) h) (owing (withControl next c) 3 xs))
     (switched-control (modeOf f h) (switchOf f h) to n)
+    (bracketed zs (owedFirings f h ps now) (when (moves f (sampled ps) h) (line now (localCode to) ∷ [])) ys)
 
 -- ---- control and limiter after any accepted call
 -- where the switch stays, so do the openings
@@ -429,6 +460,8 @@ control-kept f h (filterSet errors m) n s a k = unmoved f h n
 control-kept f h (bitsCleared alarms m) n s a k = unmoved f h n
 control-kept f h (bitsCleared errors m) n s a k = unmoved f h n
 control-kept f h (logCleared m) n s a k = unmoved f h n
+control-kept f h (groupsSet g) n s a k = unmoved f h n
+control-kept f h (profileSet w) n s a k = unmoved f h n
 
 pub limiters-after : (f : AnyFresh) (h : History) (e : Effect) (n : ℕ) → AnySettings f → AllProper f h → Proper (modeOf f h) e
     → effectResult (heldValues f h (held n)) e .values .limiters ≡ heldLimiters f (e ∷ h)
@@ -444,6 +477,8 @@ limiters-after f h (filterSet errors m) n s a k = refl
 limiters-after f h (bitsCleared alarms m) n s a k = refl
 limiters-after f h (bitsCleared errors m) n s a k = refl
 limiters-after f h (logCleared m) n s a k = refl
+limiters-after f h (groupsSet g) n s a k = refl
+limiters-after f h (profileSet w) n s a k = limiters-replaced f h w
 
 -- where the switch stays there is no letter
 no-letter : (s : ℕ) → None ≡ cond (not (eqb s s)) None None
@@ -464,3 +499,5 @@ letter-after f h (filterSet errors m) n s a k = no-letter (switchOf f h)
 letter-after f h (bitsCleared alarms m) n s a k = no-letter (switchOf f h)
 letter-after f h (bitsCleared errors m) n s a k = no-letter (switchOf f h)
 letter-after f h (logCleared m) n s a k = no-letter (switchOf f h)
+letter-after f h (groupsSet g) n s a k = no-letter (switchOf f h)
+letter-after f h (profileSet w) n s a k = no-letter (switchOf f h)

@@ -3,6 +3,7 @@ use mathlib.Core.Bool.{false}
 use mathlib.Core.List.{[], _∷_, map}
 use lib.IntN.{ℤ}
 use Rattle.limiter.specs.declared.Limiter.{Limiter}
+use Rattle.emergency.specs.Emergency.{noEmergency}
 use Rattle.history.specs.Effects.{AnyFresh}
 use Rattle.machine.specs.Values.{State}
 
@@ -21,6 +22,7 @@ freshValues f =
             clock = f .clock;
             alarms = record { bits = 0; filter = 0 };
             errors = record { bits = 0; filter = 0 };
+            emergency = noEmergency;
           };
       logs = [] ∷ [] ∷ [] ∷ [];
     }

@@ -1,12 +1,14 @@
--- The machine of document 01: what each call makes of a meter's values, in document 01's order of effects.
+-- The machine of documents 01 and 02: what each call makes of a meter's values, in their order of effects.
 use Prim.Native.Nat.{ℕ, _+_}
 use mathlib.Core.Bool.{Bool, not, _&&_, cond}
 use mathlib.Core.List.{List, [], _∷_, _++_, map}
 use mathlib.Core.Option.{Option, none, some}
 use lib.Dec.{eqb, leb}
-use lib.IntN.{ℤ}
+use lib.IntN.{ℤ, pos}
+use lib.ListN.{take}
+use lib.Signed.{leZ}
 use Rattle.base.specs.Numbers.{held}
-use Rattle.base.specs.Tests.{any, gathered, eachFrom}
+use Rattle.base.specs.Tests.{within, among, any, gathered, eachFrom, eqZ}
 use Rattle.registers.specs.Register.{raised, cleared, withFilter}
 use Rattle.events.specs.Line.{Line, line, isLog}
 use Rattle.events.specs.Table.{EventRow, lookup, mask}
@@ -18,7 +20,9 @@ use Rattle.control.specs.Table.{switchTable}
 use Rattle.control.specs.Control.{decision, modeDecision, movedTo, inMode}
 use Rattle.limiter.specs.declared.Limiter.{Limiter}
 use Rattle.limiter.specs.declared.Watched.{Watched}
-use Rattle.limiter.specs.Limiter.{sampledPower, withSettings, armed}
+use Rattle.limiter.specs.Limiter.{watching, sampledPower, withSettings, restarted, armed}
+use Rattle.emergency.specs.declared.Emergency.{Emergency}
+use Rattle.emergency.specs.Emergency.{groupsIn, withGroups, withProfile, started, ended, inForce}
 use Rattle.logs.specs.Lists.{appended, emptied}
 use Rattle.calls.specs.declared.Letter.{Letter}
 use Rattle.calls.specs.declared.Letter.the-variants.{None}
@@ -26,9 +30,11 @@ use Rattle.calls.specs.declared.Answer.{Answer}
 use Rattle.calls.specs.declared.Answer.the-variants.{Accepted, Refused}
 use Rattle.history.specs.Effects.{RequestCall, remoteDisconnect, remoteReconnect, manualDisconnect, manualReconnect, WhichRegister, alarms, errors}
 use Rattle.history.specs.Effects.{AnyCall, sample, request as requestCall, setMode, setLimiter, setClock, event, setFilter, clearBits, clearLog, script}
+use Rattle.history.specs.Effects.{Profile, setGroups, setProfile}
 use Rattle.history.specs.Last.{numberAt}
 use Rattle.machine.specs.Settings.{limitsAnswer}
 use Rattle.machine.specs.Values.{Values, State, withControl, withLimiters, withClock, withAlarms, withErrors}
+use Rattle.machine.specs.Values.{withEmergency}
 
 -- what an accepted call makes of the values: the next ones, the letter of the move that it made, a log that it clears (0: none), and the lines that it
 -- owes to a log
@@ -92,9 +98,29 @@ armedValues v q = withLimiters v (armedBy q (decided v q) (v .limiters))
 unfoldable pub requestResult : Values → Request → Result
 requestResult v q = answering (armedValues v q) (decided v q)
 
--- ---- call 1: what the limiter makes of each monitored value
-abbrev pub sampledEach : List Limiter → List ℤ → List Watched
-sampledEach ls ps = eachFrom 0 (λ k l. sampledPower l (numberAt ps k)) ls
+-- ---- document 02, A3: the threshold in force, by profiles before and after
+-- '.. becomes another number ..', for a limiter
+abbrev pub sameThreshold : Emergency → Emergency → Limiter → Bool
+sameThreshold a b l = eqZ (inForce a (l .threshold)) (inForce b (l .threshold))
+
+-- 'Whenever the threshold in force becomes another number, Run is 0 ..'
+abbrev pub restartedBy : Bool → Limiter → Limiter
+restartedBy same l = cond same l (restarted l)
+
+-- '.. and 67 is logged': one line, whichever limiters' it is
+abbrev pub changeLines : Values → List Bool → List Line
+changeLines v same = cond (any not same) (lineNow v 67 ∷ []) []
+
+-- ---- call 1: what a limiter makes of a power: document 02, A3: '.. at the start before the sample is judged, at the end after the last governed one ..';
+-- the profile before the sample, at it and after it
+abbrev pub sampledValue : Emergency → Emergency → Emergency → Limiter → ℤ → Watched
+sampledValue before during after l p =
+    let w = sampledPower (restartedBy (sameThreshold before during l) l) (inForce during (l .threshold)) p in
+    watching (restartedBy (sameThreshold during after l) (w .limiter)) (w .fired)
+
+-- each monitored value
+abbrev pub sampledEach : Emergency → Emergency → Emergency → List Limiter → List ℤ → List Watched
+sampledEach before during after ls ps = eachFrom 0 (λ k l. sampledValue before during after l (numberAt ps k)) ls
 
 -- 'on reaching Over, Exceeded is set, .. log 65 ..'; 'on reaching Under, Exceeded ends, .. log 66 ..'
 abbrev pub firedLines : Values → Watched → List Line
@@ -108,19 +134,28 @@ disconnectTried ws = any (λ w. w .fired && w .limiter .exceeded) ws
 abbrev pub reconnectTried : List Watched → Bool
 reconnectTried ws = any (λ w. w .fired && not (w .limiter .exceeded)) ws && not (any (λ w. w .limiter .exceeded) ws)
 
--- the lines of the firings, then what they try; 'In a mode without g or h nothing is tried or refused'
-abbrev pub afterSample : Values → List Watched → Change
-afterSample v ws =
-    let xs = gathered (firedLines v) ws in
-    cond (disconnectTried ws) (moving v xs (decided v request.LocalDisconnect))
-    (cond (reconnectTried ws) (moving v xs (decided v request.LocalReconnect))
-    (owing v 3 xs))
+-- behind lines already owed, the lines of the firings, then what they try; 'In a mode without g or h nothing is tried or refused'
+abbrev pub afterSample : Values → List Line → List Watched → Change
+afterSample v xs ws =
+    let ys = xs ++ gathered (firedLines v) ws in
+    cond (disconnectTried ws) (moving v ys (decided v request.LocalDisconnect))
+    (cond (reconnectTried ws) (moving v ys (decided v request.LocalReconnect))
+    (owing v 3 ys))
 
--- a sample: 'The clock gains 1, held ..', then the limiter, then what it fires
+-- a change with further lines behind its own
+abbrev pub followed : Change → List Line → Change
+followed k ys = record { values = k .values; letter = k .letter; cleared = k .cleared; log = k .log; lines = k .lines ++ ys }
+
+-- a sample: 'The clock gains 1, held ..', the profile may start, then the limiter, then what it fires, then the profile may end
 unfoldable pub sampleResult : Values → List ℤ → Change
 sampleResult v ps =
-    let ws = sampledEach (v .limiters) ps in
-    afterSample (withLimiters (withClock v (held (v .clock + 1))) (map (λ w. w .limiter) ws)) ws
+    let now = held (v .clock + 1) in
+    let during = started now (v .emergency) in
+    let after = ended during in
+    let ws = sampledEach (v .emergency) during after (v .limiters) ps in
+    let next = withEmergency (withLimiters (withClock v now) (map (λ w. w .limiter) ws)) after in
+    followed (afterSample next (changeLines next (map (sameThreshold (v .emergency) during) (v .limiters))) ws)
+    (changeLines next (map (sameThreshold during after) (v .limiters)))
 
 -- ---- call 6: '1 | mode above 6'; 'Accepting mode 0 sets switch 1 and, if it was not 1, logs 63'
 unfoldable pub modeResult : Values → ℕ → Result
@@ -189,6 +224,27 @@ scriptResult v n =
     (cond (eqb n 2) (requestResult v request.RemoteReconnect)
     (refusing 3))
 
+-- ---- kind 16 (document 02, A3): '14, more than eight ids'; 'Kind 16 sets up to eight group ids'
+unfoldable pub groupsResult : Values → ℕ → List ℕ → Result
+groupsResult v n ids = cond (leb n 8) (making (owing (withEmergency v (withGroups (v .emergency) (take n ids))) 0 [])) (refusing 14)
+
+-- ---- kind 17 (document 02, A3): 'It replaces any earlier profile and waits'; 'Whenever the threshold in force becomes another number ..', here '.. at a kind
+-- 17 that replaces an active profile'
+abbrev pub profiled : Values → Profile → Change
+profiled v w =
+    let next = withProfile (v .emergency) (w .id) (w .threshold) (w .activation) (w .duration) in
+    owing
+    (withEmergency (withLimiters v (map (λ l. restartedBy (sameThreshold (v .emergency) next l) l) (v .limiters))) next)
+    3
+    (changeLines v (map (sameThreshold (v .emergency) next) (v .limiters)))
+
+-- '15, id not in the group (kind 17); 16, duration outside 1 to 604,800, or threshold negative, after 15'
+unfoldable pub profileResult : Values → Profile → Result
+profileResult v w =
+    cond (among (groupsIn (v .emergency)) (w .id))
+    (cond (within 1 604800 (w .duration) && leZ (pos 0) (w .threshold)) (making (profiled v w)) (refusing 16))
+    (refusing 15)
+
 -- calls 2 to 5, as the switch table names them
 abbrev pub requestOf : RequestCall → Request
 requestOf remoteDisconnect = request.RemoteDisconnect
@@ -196,7 +252,7 @@ requestOf remoteReconnect = request.RemoteReconnect
 requestOf manualDisconnect = request.ManualDisconnect
 requestOf manualReconnect = request.ManualReconnect
 
--- the fifteen calls
+-- the fifteen calls and document 02's two
 abbrev pub result : List EventRow → Values → AnyCall → Result
 result rows v (sample ps) = making (sampleResult v ps)
 result rows v (requestCall q) = requestResult v (requestOf q)
@@ -208,6 +264,8 @@ result rows v (setFilter s n) = making (filterResult v s n)
 result rows v (clearBits s n) = making (clearResult v s n)
 result rows v (clearLog n) = clearLogResult v n
 result rows v (script n) = scriptResult v n
+result rows v (setGroups n ids) = groupsResult v n ids
+result rows v (setProfile w) = profileResult v w
 
 -- the values and the logs after a change
 abbrev pub stateAfter : State → Change → State

@@ -5,6 +5,7 @@ use Rattle.events.specs.Line.{Line}
 use Rattle.registers.specs.declared.Register.{Register}
 use Rattle.control.specs.declared.Control.{Control}
 use Rattle.limiter.specs.declared.Limiter.{Limiter}
+use Rattle.emergency.specs.declared.Emergency.{Emergency}
 
 -- without the logs; a limiter for each monitored value, with the same Over and Under in each
 pub record Values : Type 0 where
@@ -13,6 +14,7 @@ pub record Values : Type 0 where
   pub clock : ℕ
   pub alarms : Register
   pub errors : Register
+  pub emergency : Emergency
 
 -- with the three logs
 pub record State : Type 0 where
@@ -21,20 +23,25 @@ pub record State : Type 0 where
 
 -- with another control
 abbrev pub withControl : Values → Control → Values
-withControl v c = record { control = c; limiters = v .limiters; clock = v .clock; alarms = v .alarms; errors = v .errors }
+withControl v c = record { control = c; limiters = v .limiters; clock = v .clock; alarms = v .alarms; errors = v .errors; emergency = v .emergency }
 
 -- with other limiters
 abbrev pub withLimiters : Values → List Limiter → Values
-withLimiters v ls = record { control = v .control; limiters = ls; clock = v .clock; alarms = v .alarms; errors = v .errors }
+withLimiters v ls = record { control = v .control; limiters = ls; clock = v .clock; alarms = v .alarms; errors = v .errors; emergency = v .emergency }
 
 -- with another clock
 abbrev pub withClock : Values → ℕ → Values
-withClock v t = record { control = v .control; limiters = v .limiters; clock = t; alarms = v .alarms; errors = v .errors }
+withClock v t = record { control = v .control; limiters = v .limiters; clock = t; alarms = v .alarms; errors = v .errors; emergency = v .emergency }
 
 -- with another alarm register
 abbrev pub withAlarms : Values → Register → Values
-withAlarms v r = record { control = v .control; limiters = v .limiters; clock = v .clock; alarms = r; errors = v .errors }
+withAlarms v r = record { control = v .control; limiters = v .limiters; clock = v .clock; alarms = r; errors = v .errors; emergency = v .emergency }
 
 -- with another error register
 abbrev pub withErrors : Values → Register → Values
-withErrors v r = record { control = v .control; limiters = v .limiters; clock = v .clock; alarms = v .alarms; errors = r }
+withErrors v r = record { control = v .control; limiters = v .limiters; clock = v .clock; alarms = v .alarms; errors = r; emergency = v .emergency }
+
+-- with another profile or other groups
+abbrev pub withEmergency : Values → Emergency → Values
+withEmergency v e =
+    record { control = v .control; limiters = v .limiters; clock = v .clock; alarms = v .alarms; errors = v .errors; emergency = e }

@@ -86,9 +86,9 @@ answer-by-length m s t e = rw e
 pub next-page : (page : List ℕ) (n : ℕ) → pageInRound (pageAfterRounds page n) n ≡ pageInRound page n
 unfolding pageAfterRounds
 next-page page zero = refl
-next-page page (suc n) = go (ltb 58 (length page)) refl
+next-page page (suc n) = go (ltb 62 (length page)) refl
   where
-    go : (b : Bool) → ltb 58 (length page) ≡ b → pageInRound (pageInRound page n) (suc n) ≡ pageInRound page (suc n)
+    go : (b : Bool) → ltb 62 (length page) ≡ b → pageInRound (pageInRound page n) (suc n) ≡ pageInRound page (suc n)
     go true e = rw (e, length-set, e, set-set)
     go false e = rw (e, e)
 

@@ -53,7 +53,15 @@ isAccepted a = eqb (answerNumber a) 0
 -- a meter in round i: its clock is the round
 abbrev pub inRound : Meter → ℕ → Meter
 inRound m i =
-    record { control = m .control; limiter = m .limiter; clock = i; alarms = m .alarms; errors = m .errors; logs = m .logs }
+    record {
+      control = m .control;
+      limiter = m .limiter;
+      clock = i;
+      alarms = m .alarms;
+      errors = m .errors;
+      logs = m .logs;
+      emergency = m .emergency;
+    }
 
 -- the soundness test: how often the meter of a page is sound
 abbrev pub soundRounds : List ℕ → ℕ → ℕ
@@ -70,7 +78,7 @@ writtenRounds m page (suc n) = written builtIn (inRound m n) (writtenRounds m pa
 
 -- a page in round i: the last byte of its clock, if there is one, is the round
 abbrev pub pageInRound : List ℕ → ℕ → List ℕ
-pageInRound page i = cond (ltb 58 (length page)) (set page 58 (i % 256)) page
+pageInRound page i = cond (ltb 62 (length page)) (set page 62 (i % 256)) page
 
 -- the reader: how often it accepts the page
 abbrev pub readRounds : List ℕ → ℕ → ℕ

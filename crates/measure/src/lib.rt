@@ -96,7 +96,7 @@ pub extern "C" fn measure_write(page: &mut [u8], rounds: u32) -> u32
 }
 
 // Where the page has the last byte of the clock.
-const CLOCK_END: usize = 58;
+const CLOCK_END: usize = 62;
 
 // Puts the round into that byte, if there is one.
 fn count_round(page: &mut [u8], round: u32)

@@ -15,6 +15,7 @@ use Rattle.logs.specs.Layout.{Sized, laid, listsOf, soundLogs}
 use Rattle.logs.proofs.Read.{read-short, read-three}
 use Rattle.logs.proofs.Kept.{length-changed, changed-short}
 use Rattle.calls.specs.declared.Call.{Call}
+use Rattle.emergency.specs.Emergency.{groupsIn}
 use Rattle.calls.specs.Calls.{InRange, callOf}
 use Rattle.calls.specs.declared.Answer.the-variants.{Refused}
 use Rattle.calls.specs.declared.Letter.the-variants.{None}
@@ -48,9 +49,9 @@ read-answer m (refused n) = refl
 read-answer m (accepted e) = refl
 
 module _ (rows : List EventRow) (m : Meter) (c : Call) where
-  pub applied-answer : soundMeter rows m ≡ true → applied rows m c .answer ≡ answerOf (reading rows (m .control .mode) (asCall c))
+  pub applied-answer : soundMeter rows m ≡ true → applied rows m c .answer ≡ answerOf (reading rows (m .control .mode) (groupsIn (m .emergency)) (asCall c))
   unfolding applied
-  applied-answer e = rw (e, by-reading rows (valuesOf (scalarsOf m)) (asCall c)) (read-answer m (reading rows (m .control .mode) (asCall c)))
+  applied-answer e = rw (e, by-reading rows (valuesOf (scalarsOf m)) (asCall c)) (read-answer m (reading rows (m .control .mode) (groupsIn (m .emergency)) (asCall c)))
 
 -- ---- on any refusal the record is the one that came in
 kept-same : (m : Meter) (r : Result) (n : ℕ) → carriedOut m r .answer ≡ Refused n → carriedOut m r .meter ≡ m

@@ -69,6 +69,7 @@ module _ (rows : List EventRow) (m : Meter) (z : Sized (m .logs)) (e : soundMete
     alarms = m .alarms;
     errors = m .errors;
     logs = laid-lists rows (m .logs) z arrays-sound i;
+    emergency = m .emergency;
   }
 
   pub state-sound : soundState rows (stateOf m) ≡ true
@@ -87,7 +88,7 @@ module _ (rows : List EventRow) (v : State) (one : length (v .values .limiters) 
   same-values : valuesOf (scalarsOf (recordOf v)) ≡ v .values
   same-values =
       let w = v .values in
-      λ i. record { control = w .control; limiters = one-limiter (w .limiters) one i; clock = w .clock; alarms = w .alarms; errors = w .errors }
+      λ i. record { control = w .control; limiters = one-limiter (w .limiters) one i; clock = w .clock; alarms = w .alarms; errors = w .errors; emergency = w .emergency }
 
   pub logs-sound : soundLists rows (v .logs) ≡ true
   unfolding soundState

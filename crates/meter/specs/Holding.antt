@@ -2,6 +2,7 @@
 use mathlib.Core.List.{[], _∷_}
 use Rattle.history.specs.OnePhase.{Account}
 use Rattle.machine.specs.Values.{State}
+use Rattle.machine.specs.Holding.{emergencyOf}
 
 -- the values that an account names
 abbrev pub holding : Account → State
@@ -15,6 +16,7 @@ holding a =
             clock = a .clock;
             alarms = record { bits = a .alarms; filter = a .alarmFilter };
             errors = record { bits = a .errors; filter = a .errorFilter };
+            emergency = emergencyOf (a .groups) (a .profile);
           };
       logs = a .logs;
     }

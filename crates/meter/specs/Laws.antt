@@ -7,6 +7,7 @@ use lib.ListN.{length}
 use Rattle.base.specs.Tests.{every}
 use Rattle.events.specs.Table.{EventRow, builtIn, lawful}
 use Rattle.logs.specs.Layout.{Sized}
+use Rattle.emergency.specs.Emergency.{groupsIn}
 use Rattle.calls.specs.declared.Call.{Call}
 use Rattle.calls.specs.declared.Answer.{Answer}
 use Rattle.calls.specs.declared.Answer.the-variants.{Accepted, Refused}
@@ -47,7 +48,7 @@ pub record LawsOf (rows : List EventRow) : Type 0 where
       → commandedInParts rows m c ≡ commanded rows m c
   -- for a sound record the answer is the one that the account's rule gives: each number comes under its condition only
   pub answers : (m : Meter) (c : Call) → soundMeter rows m ≡ true
-      → applied rows m c .answer ≡ answerOf (reading rows (m .control .mode) (asCall c))
+      → applied rows m c .answer ≡ answerOf (reading rows (m .control .mode) (groupsIn (m .emergency)) (asCall c))
   -- on any refusal the record is the one that came in, of a call and of a command
   pub refused-same : (m : Meter) (c : Call) (n : ℕ) → applied rows m c .answer ≡ Refused n
       → applied rows m c .meter ≡ m

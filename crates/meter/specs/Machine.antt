@@ -30,7 +30,7 @@ carriedOut m (making k) = record { meter = recordOf (stateAfter (stateOf m) k); 
 unfoldable pub applied : List EventRow → Meter → Call → Outcome
 applied rows m c = cond (soundMeter rows m) (carriedOut m (resultOf rows (scalarsOf m) c)) (refusedWith m 12)
 
--- 'kind | 13 | not 1–15; the command's reading fails before the record is touched'
+-- 'kind | 13 | ..; the command's reading fails before the record is touched'; document 02, A3: 'Refusal 13 now means not 1–17 ..'
 abbrev pub performed : List EventRow → Meter → Parsed → Outcome
 performed rows m (Ok c) = applied rows m c
 performed rows m NoKind = refusedWith m 13

@@ -59,7 +59,7 @@ carriedOutInParts rows m c = leftIn m (resultOf rows (scalarsOf m) c)
 unfoldable pub appliedInParts : List EventRow → Meter → Call → Outcome
 appliedInParts rows m c = cond (soundMeter rows m) (carriedOutInParts rows m c) (refusedWith m 12)
 
--- what a command names, carried out: 'kind | 13 | not 1–15'
+-- what a command names, carried out: 'kind | 13 | ..'
 abbrev pub performedInParts : List EventRow → Meter → Parsed → Outcome
 performedInParts rows m (Ok c) = carriedOutInParts rows m c
 performedInParts rows m NoKind = refusedWith m 13

@@ -10,7 +10,7 @@ use Rattle.meter.specs.declared.Meter.{Meter}
 -- the record without its logs
 abbrev pub scalarsOf : Meter → Scalars
 scalarsOf m =
-    record { control = m .control; limiter = m .limiter; clock = m .clock; alarms = m .alarms; errors = m .errors }
+    record { control = m .control; limiter = m .limiter; clock = m .clock; alarms = m .alarms; errors = m .errors; emergency = m .emergency }
 
 -- the record of these scalars and the logs in these arrays
 abbrev pub withLogs : Scalars → List ℕ → List ℕ → List ℕ → Meter
@@ -22,6 +22,7 @@ withLogs s counts clocks codes =
       alarms = s .alarms;
       errors = s .errors;
       logs = arrays counts clocks codes;
+      emergency = s .emergency;
     }
 
 -- read off a record
@@ -38,4 +39,5 @@ recordOf v =
       alarms = v .values .alarms;
       errors = v .values .errors;
       logs = laid (v .logs);
+      emergency = v .values .emergency;
     }

@@ -8,6 +8,7 @@ use crate::Outcome;
 use calls::Answer;
 use calls::Letter;
 use control::Control;
+use emergency::Emergency;
 use limiter::Limiter;
 use logs::Logs;
 use registers::Register;
@@ -36,6 +37,16 @@ fn with_settings(mode: u8, threshold: i32, over: u32, under: u32, clock: u32) ->
             counts: [0u8; 3],
             clocks: [0u32; 96],
             codes: [0u8; 96],
+        },
+        emergency: Emergency {
+            id: 0,
+            threshold: 0,
+            activation: 0,
+            duration: 0,
+            left: 0,
+            state: 0,
+            count: 0,
+            ids: [0u16; 8],
         },
     }
 }

@@ -12,7 +12,7 @@ pub use lib.Seq.{drop-at, drop-cons, drop-drop, getD-at, sets, sets-eq, take-all
 pub use lib.Dec.{T, eqb, leb, ltb}
 pub use lib.IntN.{natAbs, negsuc, pos, ℤ}
 pub use lib.Signed.{leZ, nonNeg}
-pub use mir.Syntax.{Width, w32, w8}
+pub use mir.Syntax.{Width, w16, w32, w8}
 pub use mir.Val.{Fits, SFits, bits, ofZ, toZ}
 pub use mir.ValLaws.{toZ-ofZ, toZ-pos}
 pub use borrow.Author.Needs.{needs}

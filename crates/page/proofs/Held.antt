@@ -6,8 +6,13 @@ use Rattle.registers.specs.declared.Register.{Register}
 use Rattle.control.specs.declared.Control.{Control}
 use Rattle.control.specs.Control.{soundControl}
 use Rattle.limiter.specs.declared.Limiter.{Limiter}
+use Rattle.base.specs.Tests.{within}
+use Rattle.codec.specs.Format.{num}
+use Rattle.emergency.specs.declared.Emergency.{Emergency}
+use Rattle.emergency.specs.Emergency.{inRanges, soundEmergency, Eight}
+use Rattle.emergency.proofs.Kept.{Which, empty, waits, runs, which, profile-part, groups-part}
 use Rattle.logs.specs.declared.Logs.{Logs}
-use Rattle.page.specs.Layout.{controlArea, limiterArea, registerArea, lineFormat, logArea, logsArea, storedLines, layout}
+use Rattle.page.specs.Layout.{controlArea, limiterArea, registerArea, lineFormat, logArea, logsArea, storedLines, storedNumbers, emergencyArea, layout}
 use Rattle.page.specs.Laws.{Typed}
 use Rattle.page.proofs.Lines.{length-lines}
 
@@ -62,12 +67,53 @@ module _ (g : Logs) (n : (i : ℕ) → getD (g .counts) i 0 < 256 ^ 1) (t : (i :
   logs-held : Sized g → logsArea .Holds g
   logs-held z = ((refl, (log-held 0 0, (log-held 1 32, (log-held 2 64, tt)))), z)
 
+-- ---- the emergency profile and the groups
+ids-held : (k at : ℕ) (ids : List ℕ) → ((i : ℕ) → getD ids i 0 < 65536) → AllHold (num 2) (storedNumbers k at ids)
+ids-held zero at ids h = tt
+ids-held (suc k) at ids h = (omega (arith, h at), ids-held k (suc at) ids h)
+
+module _ (e : Emergency) (sound : soundEmergency e ≡ true) (id : e .id < 65536) (activation : Word (e .activation)) (eight : Eight e)
+    (ids : (i : ℕ) → getD (e .ids) i 0 < 65536) where
+  -- whatever the state, the profile's numbers have their bytes
+  in-bytes : T (nonNeg (e .threshold)) × (natAbs (e .threshold) < 256 ^ 4) → e .duration ≤ 604800 → e .left ≤ 604800 → e .state ≤ 2
+      → emergencyArea .Holds e
+  in-bytes watts duration left state =
+      let count = leb-true (e .count) 8 (and-left (leb (e .count) 8) _ (groups-part e sound)) in (
+        (
+          omega (arith, id),
+          (watts, (omega (arith, activation), (omega arith, (omega arith, (omega arith, (omega arith, (refl, ids-held 8 0 (e .ids) ids))))))),
+        ),
+        eight,
+      )
+
+  emergency-held : emergencyArea .Holds e
+  emergency-held = by-state (which e (profile-part e sound))
+    where
+      most : inRanges e ≡ true → e .duration ≤ 604800
+      most r =
+          leb-true (e .duration) 604800
+          (and-right (leb 1 (e .duration)) (leb (e .duration) 604800) (and-left (within 1 604800 (e .duration)) (isThreshold (e .threshold)) r))
+
+      watts : inRanges e ≡ true → T (nonNeg (e .threshold)) × (natAbs (e .threshold) < 256 ^ 4)
+      watts r = threshold-held (e .threshold) (and-right (within 1 604800 (e .duration)) (isThreshold (e .threshold)) r)
+
+      by-state : Which e → emergencyArea .Holds e
+      by-state (empty n) =
+          in-bytes (rw (n .threshold) (threshold-held (pos 0) refl)) (omega (arith, n .duration)) (omega (arith, n .left)) (omega (arith, n .state))
+      by-state (waits s r l) = in-bytes (watts r) (most r) (omega (arith, l, most r)) (omega (arith, s))
+      by-state (runs s r l) =
+          in-bytes (watts r) (most r)
+          (omega (arith, most r, leb-true (e .left) (e .duration) (and-right (leb 1 (e .left)) (leb (e .left) (e .duration)) l))) (omega (arith, s))
+
 pub meter-held : (rows : List EventRow) (m : Meter) → Typed m → soundMeter rows m ≡ true → layout .Holds m
 unfolding layout soundMeter soundScalars
 meter-held rows m t e =
-    let scalars = and-left (soundControl (m .control) && soundLimiter (m .limiter)) (soundLogs rows (m .logs)) e in
-    let control = and-left (soundControl (m .control)) (soundLimiter (m .limiter)) scalars in
-    let limiter = and-right (soundControl (m .control)) (soundLimiter (m .limiter)) scalars in
+    let scalars = and-left (soundControl (m .control) && (soundLimiter (m .limiter) && soundEmergency (m .emergency))) (soundLogs rows (m .logs)) e in
+    let control = and-left (soundControl (m .control)) (soundLimiter (m .limiter) && soundEmergency (m .emergency)) scalars in
+    let rest = and-right (soundControl (m .control)) (soundLimiter (m .limiter) && soundEmergency (m .emergency)) scalars in
+    let limiter = and-left (soundLimiter (m .limiter)) (soundEmergency (m .emergency)) rest in
+    let emergency = and-right (soundLimiter (m .limiter)) (soundEmergency (m .emergency)) rest in
+    let logs = logs-held (m .logs) (t .counts) (λ i. omega (arith, t .clocks i)) (t .codes) (t .logs) in
     let clock : m .clock < 256 ^ 4 = omega (arith, t .clock) in (
       (
         control-held (m .control) control (t .openings),
@@ -77,7 +123,10 @@ meter-held rows m t e =
             clock,
             (
               register-held (m .alarms) (t .alarms) (t .alarmFilter),
-              (register-held (m .errors) (t .errors) (t .errorFilter), logs-held (m .logs) (t .counts) (λ i. omega (arith, t .clocks i)) (t .codes) (t .logs)),
+              (
+                register-held (m .errors) (t .errors) (t .errorFilter),
+                (logs, emergency-held (m .emergency) emergency (t .id) (t .activation) (t .eight) (t .ids)),
+              ),
             ),
           ),
         ),

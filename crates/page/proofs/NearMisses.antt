@@ -1,6 +1,7 @@
 -- The near misses of reader and writer, each by computing it.
-use Rattle.page.proofs.Common.{refl, flatMap, among, below, numAt, builtIn, lookup, soundLimiter, ownCodes, zeroPast, soundLog, soundArrays, padded}
+use Rattle.page.proofs.Common.{refl, flatMap, be, among, below, numAt, builtIn, lookup, soundLimiter, ownCodes, zeroPast, soundLog, soundArrays, padded}
 use Rattle.page.proofs.Common.{flat, laid, soundLogs, soundMeter, soundScalars}
+use Rattle.emergency.specs.Emergency.{soundEmergency}
 use Rattle.events.specs.Codes.{besides, mayHold}
 use Rattle.control.specs.Control.{soundControl}
 use Rattle.page.specs.Layout.{ofAreas, layout, writeAnswer, hasPairs, holdsSound, readOf}
@@ -8,7 +9,7 @@ use Rattle.page.specs.NearMisses.{NearMisses}
 
 pub near-misses : NearMisses
 unfolding readOf hasPairs holdsSound layout ofAreas writeAnswer numAt flatMap soundMeter soundScalars soundControl soundLimiter soundLogs soundArrays
-    soundLog ownCodes zeroPast padded flat laid among below builtIn lookup besides mayHold
+    soundEmergency be soundLog ownCodes zeroPast padded flat laid among below builtIn lookup besides mayHold
 near-misses =
     record {
       unchanged = refl;
@@ -23,6 +24,14 @@ near-misses =
       counts = refl;
       codes = refl;
       past = refl;
+      no-profile = refl;
+      states = refl;
+      waiting = refl;
+      active = refl;
+      durations = refl;
+      emergency-thresholds = refl;
+      group-counts = refl;
+      ids-past = refl;
       unsound-written = refl;
       buffers = refl;
     }

@@ -1,20 +1,27 @@
 -- The numbers of an account are values of their types: those that are held at 32 bits, and those that calls bring.
-use Rattle.page.proofs.Common.{_≡_, refl, true, List, [], _∷_, _++_, map, reverse, ℕ, zero, suc, _-_, _<_, _^_, arith, leb, ltb, length, getD, replicate}
+use Rattle.page.proofs.Common.{_≡_, refl, ap, _∙_, Bool, true, false, _&&_, cond, List, [], _∷_, _++_, map, reverse, ℕ, zero, suc, _-_, _<_, _≤_, _^_, arith, leb, ltb, length, getD, replicate}
 use Rattle.page.proofs.Common.{leb-true, ltb-true, every, and-left, and-right, every-first, every-rest, pow-pos, Line, EventRow, lawful, lineClock}
-use Rattle.page.proofs.Common.{lineCode, padded, flat, laid, Word, AllInRange, recordOf}
+use Rattle.page.proofs.Common.{lineCode, soundLimiter, padded, flat, laid, Word, AllInRange, recordOf}
+use mathlib.Core.Option.{Option, none, some}
 use Rattle.base.proofs.Bits.{number-lt}
+use Rattle.control.specs.Control.{soundControl}
+use Rattle.emergency.specs.Emergency.{padded as paddedIds, soundEmergency}
+use Rattle.emergency.proofs.Kept.{groups-part, padded-eight}
 use Rattle.logs.proofs.Places.{Short, none as noLog, more as moreLogs}
 use Rattle.logs.proofs.Kept.{lists-short}
 use Rattle.calls.specs.declared.Call.{Call}
-use Rattle.history.specs.Effects.{AnyFresh, WhichRegister, alarms, errors}
+use Rattle.history.specs.Effects.{AnyFresh, WhichRegister, alarms, errors, Profile}
 use Rattle.history.specs.Last.{History}
 use Rattle.history.specs.Registers.{stands, bitsOf}
+use Rattle.history.specs.Profile.{ProfileState, noProfile, waiting, active, groupsOf, profileOf, clocksSince, governed, stateBy, stateAt, profileState}
 use Rattle.history.specs.Account.{acceptedCalls}
-use Rattle.history.specs.OnePhase.{Fresh, asFresh, asCall, account}
+use Rattle.history.specs.OnePhase.{Fresh, Account, asFresh, asCall, account}
 use Rattle.machine.specs.Values.{State}
-use Rattle.machine.specs.Sound.{soundState}
+use Rattle.machine.specs.Sound.{soundValues, soundState}
+use Rattle.machine.specs.Holding.{emergencyOf}
+use Rattle.machine.specs.Ranges.{isId}
 use Rattle.machine.proofs.Effects.{AllProper}
-use Rattle.machine.proofs.Ranges.{filter-word}
+use Rattle.machine.proofs.Ranges.{filter-word, Kept, profile-range, groups-range}
 use Rattle.machine.proofs.Fits.{fits, log-fits}
 use Rattle.machine.proofs.Simulates.{all-proper}
 use Rattle.meter.specs.Settings.{Settings}
@@ -66,6 +73,61 @@ clock-fits x e = omega (arith, leb-true (x .clock) 4294967295 (and-left (leb (x 
 code-fits : (x : Line) → fits x ≡ true → x .code < 256 ^ 1
 code-fits x e = omega (arith, ltb-true (x .code) 256 (and-right (leb (x .clock) 4294967295) (ltb (x .code) 256) e))
 
+-- ---- the fields that hold groups and a profile
+
+-- the ids' count, whatever the profile
+count-held : (ids : List ℕ) (p : ProfileState) → emergencyOf ids p .count ≡ length ids
+count-held ids noProfile = refl
+count-held ids (waiting w) = refl
+count-held ids (active w left) = refl
+
+-- groups of sound values are at most eight
+pub groups-most : (rows : List EventRow) (a : Account) → soundState rows (holding a) ≡ true → length (a .groups) ≤ 8
+unfolding soundState soundValues
+groups-most rows a e =
+    let v = holding a .values in
+    let control = soundControl (v .control) in
+    let limiters = every soundLimiter (v .limiters) in
+    let rest = and-right control (limiters && soundEmergency (v .emergency)) (and-left (control && (limiters && soundEmergency (v .emergency))) _ e) in
+    let groups = groups-part (v .emergency) (and-right limiters (soundEmergency (v .emergency)) rest) in
+    omega (arith, leb-true (v .emergency .count) 8 (and-left (leb (v .emergency .count) 8) _ groups), count-held (a .groups) (a .profile))
+
+-- the ids, whatever the profile
+ids-held : (ids : List ℕ) (p : ProfileState) → emergencyOf ids p .ids ≡ paddedIds ids
+ids-held ids noProfile = refl
+ids-held ids (waiting w) = refl
+ids-held ids (active w left) = refl
+
+fit-ids : (ids : List ℕ) → every isId ids ≡ true → Fit 2 ids
+fit-ids [] h i = pow-pos 2
+fit-ids (x ∷ ids) h zero = omega (arith, ltb-true x 65536 (every-first isId x ids h))
+fit-ids (x ∷ ids) h (suc i) = fit-ids ids (every-rest isId x ids h) i
+
+fit-padded : (ids : List ℕ) → every isId ids ≡ true → Fit 2 (paddedIds ids)
+unfolding paddedIds
+fit-padded ids h = fit-append 2 ids (replicate (8 - length ids) 0) (fit-ids ids h) (fit-zeros 2 (8 - length ids))
+
+-- id and activation of a profile that was set in range, while it stands
+module _ (ids : List ℕ) where
+  -- they fit their bytes
+  abbrev Typable : ProfileState → Type 0
+  Typable p = (emergencyOf ids p .id < 65536) × Word (emergencyOf ids p .activation)
+
+  profile-typable : (o : Option Profile) (clocks : List ℕ) → Kept o → Typable (stateAt o clocks)
+  profile-typable none clocks k = (omega arith, omega arith)
+  profile-typable (some w) clocks (least, (id, activation)) = by-count (length (governed w clocks))
+    where
+      numbers : Typable (waiting w)
+      numbers = (ltb-true (w .id) 65536 id, activation)
+
+      unless-gone : (left : ℕ) (b : Bool) → Typable (cond b (active w left) noProfile)
+      unless-gone left true = numbers
+      unless-gone left false = (omega arith, omega arith)
+
+      by-count : (n : ℕ) → Typable (stateBy w n)
+      by-count zero = numbers
+      by-count (suc n) = unless-gone (w .duration - suc n) (ltb (suc n) (w .duration))
+
 -- ---- the account of a list of calls
 module _ (rows : List EventRow) (table : every lawful rows ≡ true) (f : Fresh) (t : Settings f) (cs : List Call) (r : AllInRange cs) where
   abbrev g : AnyFresh
@@ -90,6 +152,12 @@ module _ (rows : List EventRow) (table : every lawful rows ≡ true) (f : Fresh)
   bits-word : (s : WhichRegister) → Word (bitsOf s h)
   bits-word s = omega (arith, number-lt 32 (λ b. stands s b h))
 
+  typable : Typable (groupsOf h) (profileState g h)
+  typable = profile-typable (groupsOf h) (profileOf h) (clocksSince g h) (profile-range g h proper)
+
+  held : v .values .emergency .ids ≡ paddedIds (groupsOf h)
+  held = ids-held (groupsOf h) (profileState g h)
+
   pub account-typed : Typed (recordOf v)
   unfolding laid
   account-typed =
@@ -104,4 +172,8 @@ module _ (rows : List EventRow) (table : every lawful rows ≡ true) (f : Fresh)
         counts = counts-fit (lists-short rows (v .logs) (logs-sound rows v refl sound));
         clocks = λ i. omega (arith, fit-flat 4 lineClock clock-fits (v .logs) lines-fit i);
         codes = fit-flat 1 lineCode code-fits (v .logs) lines-fit;
+        id = typable .0;
+        activation = typable .1;
+        eight = ap length held ∙ padded-eight (groupsOf h) (groups-most rows (account rows f cs) sound);
+        ids = λ i. rw held (omega (arith, fit-padded (groupsOf h) (groups-range g h proper) i));
       }

@@ -1,9 +1,15 @@
 -- Demand 3: the record after a list holds the account, its numbers fit the page's bytes, and a page gives back the record that it was written from.
-use Rattle.page.proofs.Common.{_≡_, refl, sym, ap, _∙_, true, List, ℕ, _≤_, arith, length, replicate, le-leb, Accepted, Meter, firstLimiter, stateOf}
+use Rattle.page.proofs.Common.{_≡_, refl, sym, ap, _∙_, true, cond, List, ℕ, _≤_, arith, eqb, length, replicate, le-leb, Accepted, Meter, firstLimiter, stateOf}
 use Rattle.page.proofs.Common.{recordOf, soundMeter}
+use Rattle.emergency.specs.declared.Emergency.{Emergency}
+use Rattle.emergency.specs.Emergency.{groupsIn}
+use Rattle.history.specs.Effects.{Profile}
+use Rattle.history.specs.Profile.{ProfileState, noProfile, waiting, active}
 use Rattle.history.specs.OnePhase.{Account}
 use Rattle.machine.specs.Values.{State}
 use Rattle.machine.specs.Sound.{soundState}
+use Rattle.machine.specs.Holding.{emergencyOf}
+use Rattle.machine.proofs.Profile.{groups-back}
 use Rattle.meter.specs.Machine.{recordAfter}
 use Rattle.meter.specs.Settings.{Settings}
 use Rattle.meter.specs.Holding.{holding}
@@ -15,12 +21,23 @@ use Rattle.meter.proofs.Simulates.{account-sound}
 use Rattle.page.specs.Layout.{size, pageOf, writeAnswer}
 use Rattle.page.specs.Laws.{Typed}
 use Rattle.page.specs.Examples.{worked, unused, Examples}
-use Rattle.page.proofs.Example.{worked-page, distinct-page}
+use Rattle.page.proofs.Example.{worked-page, distinct-page, waiting-area}
 use Rattle.page.specs.AccountPage.{accountPage}
 use Rattle.page.specs.Demand3.{Trace, lastRecord, pageAfter, traceAccount, Demand3}
 use Rattle.page.proofs.RoundTrip.{laws}
 use Rattle.page.proofs.Ranges.{account-typed}
 use Rattle.page.proofs.Printed.{list-written}
+
+-- the profile that the fields of the ninth area hold
+abbrev profileHeld : Emergency → ProfileState
+profileHeld e =
+    let set : Profile = record { id = e .id; threshold = e .threshold; activation = e .activation; duration = e .duration } in
+    cond (eqb (e .state) 0) noProfile (cond (eqb (e .state) 1) (waiting set) (active set (e .left)))
+
+profile-back : (ids : List ℕ) (p : ProfileState) → profileHeld (emergencyOf ids p) ≡ p
+profile-back ids noProfile = refl
+profile-back ids (waiting w) = refl
+profile-back ids (active w left) = refl
 
 -- an account is the one whose values it names
 abbrev named : State → Account
@@ -40,6 +57,30 @@ named v =
       errors = v .values .errors .bits;
       errorFilter = v .values .errors .filter;
       logs = v .logs;
+      groups = groupsIn (v .values .emergency);
+      profile = profileHeld (v .values .emergency);
+    }
+
+named-back : (a : Account) → named (holding a) ≡ a
+named-back a =
+    λ i.
+    record {
+      mode = a .mode;
+      switch = a .switch;
+      openings = a .openings;
+      threshold = a .threshold;
+      over = a .over;
+      under = a .under;
+      exceeded = a .exceeded;
+      run = a .run;
+      clock = a .clock;
+      alarms = a .alarms;
+      alarmFilter = a .alarmFilter;
+      errors = a .errors;
+      errorFilter = a .errorFilter;
+      logs = a .logs;
+      groups = groups-back (a .groups) (a .profile) i;
+      profile = profile-back (a .groups) (a .profile) i;
     }
 
 -- the meter's laws by the list's table
@@ -89,7 +130,7 @@ same-account s t e =
     let values : holding (traceAccount s) ≡ holding (traceAccount t) =
     sym (by-table s .state-of-record (holding (traceAccount s)) refl (values-sound s)) ∙ ap stateOf records ∙ by-table t .state-of-record
     (holding (traceAccount t)) refl (values-sound t) in
-    ap named values
+    sym (named-back (traceAccount s)) ∙ ap named values ∙ named-back (traceAccount t)
 
 pub demand-3 : Demand3
 demand-3 s t out out′ room room′ =
@@ -110,5 +151,6 @@ examples =
     record {
       worked-page = worked-page;
       distinct-page = distinct-page;
+      waiting-area = waiting-area;
       compared = demand-3 worked unused (replicate size 255) (replicate 600 0) (omega arith) (omega arith);
     }

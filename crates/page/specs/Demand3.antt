@@ -1,5 +1,6 @@
 -- Demand 3: 'For every two lists of the fifteen calls .., one from each meter, the page after the one equals the page after the other exactly when
--- the accounts of the two histories are equal. Each page holds its own account, byte for byte by the layout.'
+-- the accounts of the two histories are equal. Each page holds its own account, byte for byte by the layout.' Document 02, A3: 'Demand 3's lists hold
+-- both kinds too ..'
 use mathlib.Core.Path.{_≡_}
 use mathlib.Core.Bool.{true}
 use mathlib.Core.List.{List}

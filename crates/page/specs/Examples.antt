@@ -10,12 +10,14 @@ use Rattle.base.specs.Tests.{every}
 use Rattle.events.specs.Line.{line}
 use Rattle.events.specs.Table.{builtIn, lawful}
 use Rattle.calls.specs.declared.Answer.the-variants.{Accepted}
+use Rattle.history.specs.Effects.{Profile}
+use Rattle.history.specs.Profile.{waiting, active}
 use Rattle.history.specs.OnePhase.{Account}
 use Rattle.history.specs.Examples.{exampleSettings, exampleCalls}
 use Rattle.meter.specs.Settings.{freshAnswer, SettingsInRange}
 use Rattle.meter.specs.Fresh.{freshOf}
 use Rattle.page.specs.Layout.{size}
-use Rattle.page.specs.AccountPage.{accountPage}
+use Rattle.page.specs.AccountPage.{emergencyBytes, accountPage}
 use Rattle.page.specs.Demand3.{Trace, traceAccount, Compared}
 
 -- fresh accepts (5, 3000, 2, 3, 1000)
@@ -93,8 +95,9 @@ noLines = replicate 161 0
 -- example log'
 abbrev pub workedBytes : List ℕ
 workedBytes =
-    -- '(32,6) (38,17) (55,4) (59,8) (67,8) (75,161) (236,161) (397,161)'
-    0 ∷ 32 ∷ 0 ∷ 6 ∷ 0 ∷ 38 ∷ 0 ∷ 17 ∷ 0 ∷ 55 ∷ 0 ∷ 4 ∷ 0 ∷ 59 ∷ 0 ∷ 8 ∷ 0 ∷ 67 ∷ 0 ∷ 8 ∷ 0 ∷ 75 ∷ 0 ∷ 161 ∷ 0 ∷ 236 ∷ 0 ∷ 161 ∷ 1 ∷ 141 ∷ 0 ∷ 161
+    -- (36,6) (42,17) (59,4) (63,8) (71,8) (79,161) (240,161) (401,161) (562,36)
+    0 ∷ 36 ∷ 0 ∷ 6 ∷ 0 ∷ 42 ∷ 0 ∷ 17 ∷ 0 ∷ 59 ∷ 0 ∷ 4 ∷ 0 ∷ 63 ∷ 0 ∷ 8 ∷ 0 ∷ 71 ∷ 0 ∷ 8 ∷ 0 ∷ 79 ∷ 0 ∷ 161 ∷ 0 ∷ 240 ∷ 0 ∷ 161
+    ∷ 1 ∷ 145 ∷ 0 ∷ 161 ∷ 2 ∷ 50 ∷ 0 ∷ 36
     -- mode 0, switch 1, two openings
     ∷ 0 ∷ 1 ∷ 0 ∷ 0 ∷ 0 ∷ 2
     -- threshold 3000, Over 2, Under 3, not Exceeded, Run 0
@@ -106,7 +109,13 @@ workedBytes =
     ∷ (noLines ++ (noLines ++ (
     6 ∷ 0 ∷ 0 ∷ 3 ∷ 235 ∷ 65 ∷ 0 ∷ 0 ∷ 3 ∷ 235 ∷ 64 ∷ 0 ∷ 0 ∷ 3 ∷ 235 ∷ 61
     ∷ 0 ∷ 0 ∷ 3 ∷ 238 ∷ 62 ∷ 0 ∷ 0 ∷ 3 ∷ 238 ∷ 59 ∷ 0 ∷ 0 ∷ 3 ∷ 238 ∷ 63
-    ∷ replicate (26 * 5) 0)))
+    ∷ (replicate (26 * 5) 0
+    -- no emergency profile, and no groups
+    ++ replicate 36 0))))
+
+-- a profile in which each field has a number of its own
+abbrev pub someProfile : Profile
+someProfile = record { id = 772; threshold = pos 16843009; activation = 4278255360; duration = 604800 }
 
 -- an account in which each field has a number of its own
 abbrev pub distinct : Account
@@ -126,13 +135,16 @@ distinct =
       errors = 7937;
       errorFilter = 2147483648;
       logs = (line 1 4 ∷ line 2 5 ∷ []) ∷ (line 3 40 ∷ []) ∷ (line 4 65 ∷ line 4 64 ∷ line 5 255 ∷ []) ∷ [];
+      groups = 65535 ∷ 772 ∷ 7 ∷ 772 ∷ [];
+      profile = active someProfile 260;
     }
 
 -- its bytes
 abbrev pub distinctBytes : List ℕ
 distinctBytes =
     -- the pairs
-    0 ∷ 32 ∷ 0 ∷ 6 ∷ 0 ∷ 38 ∷ 0 ∷ 17 ∷ 0 ∷ 55 ∷ 0 ∷ 4 ∷ 0 ∷ 59 ∷ 0 ∷ 8 ∷ 0 ∷ 67 ∷ 0 ∷ 8 ∷ 0 ∷ 75 ∷ 0 ∷ 161 ∷ 0 ∷ 236 ∷ 0 ∷ 161 ∷ 1 ∷ 141 ∷ 0 ∷ 161
+    0 ∷ 36 ∷ 0 ∷ 6 ∷ 0 ∷ 42 ∷ 0 ∷ 17 ∷ 0 ∷ 59 ∷ 0 ∷ 4 ∷ 0 ∷ 63 ∷ 0 ∷ 8 ∷ 0 ∷ 71 ∷ 0 ∷ 8 ∷ 0 ∷ 79 ∷ 0 ∷ 161 ∷ 0 ∷ 240 ∷ 0 ∷ 161
+    ∷ 1 ∷ 145 ∷ 0 ∷ 161 ∷ 2 ∷ 50 ∷ 0 ∷ 36
     -- mode 6, switch 2, openings
     ∷ 6 ∷ 2 ∷ 1 ∷ 2 ∷ 3 ∷ 4
     -- threshold, Over 86,400, Under 259, Exceeded, Run 258
@@ -149,13 +161,25 @@ distinctBytes =
     -- log 2: one line
     ++ (1 ∷ 0 ∷ 0 ∷ 0 ∷ 3 ∷ 40 ∷ replicate (31 * 5) 0
     -- log 3: three lines
-    ++ (3 ∷ 0 ∷ 0 ∷ 0 ∷ 4 ∷ 65 ∷ 0 ∷ 0 ∷ 0 ∷ 4 ∷ 64 ∷ 0 ∷ 0 ∷ 0 ∷ 5 ∷ 255 ∷ replicate (29 * 5) 0)))
+    ++ (3 ∷ 0 ∷ 0 ∷ 0 ∷ 4 ∷ 65 ∷ 0 ∷ 0 ∷ 0 ∷ 4 ∷ 64 ∷ 0 ∷ 0 ∷ 0 ∷ 5 ∷ 255 ∷ (replicate (29 * 5) 0
+    -- the profile: id 772, threshold, activation, duration 604,800, 260 samples left, active
+    ++ (3 ∷ 4 ∷ 1 ∷ 1 ∷ 1 ∷ 1 ∷ 255 ∷ 0 ∷ 255 ∷ 0 ∷ 0 ∷ 9 ∷ 58 ∷ 128 ∷ 0 ∷ 0 ∷ 1 ∷ 4 ∷ 2
+    -- four groups
+    ∷ 4 ∷ 255 ∷ 255 ∷ 3 ∷ 4 ∷ 0 ∷ 7 ∷ 3 ∷ 4 ∷ replicate (4 * 2) 0)))))
 
--- the two pages, and demand 3 of the two traces
+-- the ninth area of one group and a profile that waits: 'samples left equals the duration while waiting'
+abbrev pub waitingBytes : List ℕ
+waitingBytes =
+    3 ∷ 4 ∷ 1 ∷ 1 ∷ 1 ∷ 1 ∷ 255 ∷ 0 ∷ 255 ∷ 0 ∷ 0 ∷ 9 ∷ 58 ∷ 128 ∷ 0 ∷ 9 ∷ 58 ∷ 128 ∷ 1
+    ∷ 1 ∷ 0 ∷ 7 ∷ replicate (7 * 2) 0
+
+-- the two pages, the area, and demand 3 of the two traces
 pub record Examples : Type 0 where
   -- the account of the worked example, in the page's layout
   pub worked-page : accountPage (traceAccount worked) ≡ workedBytes
   -- each field stands where document 01 says, and nowhere else
   pub distinct-page : accountPage distinct ≡ distinctBytes
+  -- document 02, A3: a profile that waits
+  pub waiting-area : emergencyBytes (7 ∷ []) (waiting someProfile) ≡ waitingBytes
   -- two traces, each with a buffer that is long enough: what demand 3 speaks of is there
   pub compared : Compared worked unused (replicate size 255) (replicate 600 0)

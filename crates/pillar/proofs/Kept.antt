@@ -59,7 +59,7 @@ module _ (rows : List EventRow) (page : List ℕ) (r : Command) (p : Parsed) (pa
 
 -- the numbers of a call that a command of numbers of 32 bits names are values of their types
 pub named-range : (p : Parsed) (c : Call) (r : Command) → p ≡ callOf r → p ≡ Ok c → r .n1 < 256 ^ 4 → r .n2 < 256 ^ 4 → r .n3 < 256 ^ 4
-    → InRange c
-named-range p c r read names h1 h2 h3 =
-    let range : ParsedInRange p = rw read (call-range r h1 h2 h3) in
+    → r .n4 < 256 ^ 4 → r .n5 < 256 ^ 4 → InRange c
+named-range p c r read names h1 h2 h3 h4 h5 =
+    let range : ParsedInRange p = rw read (call-range r h1 h2 h3 h4 h5) in
     rw names at range

@@ -95,11 +95,11 @@ module _ (rows : List EventRow) where
   -- ---- the kind comes first
 
   module _ (page : List ℕ) (r : Command) where
-    no-kind : within 1 15 (r .kind) ≡ false → callNumber rows page r ≡ 13
+    no-kind : within 1 17 (r .kind) ≡ false → callNumber rows page r ≡ 13
     unfolding callNumber
     no-kind out = rw (call-laws .no-kind r out)
 
-    unread : (n : ℕ) → within 1 15 (r .kind) ≡ true → readOf rows page .answer ≡ Refused n → callNumber rows page r ≡ n
+    unread : (n : ℕ) → within 1 17 (r .kind) ≡ true → readOf rows page .answer ≡ Refused n → callNumber rows page r ≡ n
     unfolding callNumber
     unread n in-kinds e = go _ refl
       where
@@ -184,7 +184,7 @@ module _ (rows : List EventRow) (table : every lawful rows ≡ true) where
 
   held-sized : (m : Meter) → layout .Holds m → Sized (m .logs)
   unfolding layout
-  held-sized m h = h .0 .1 .1 .1 .1 .1 .1
+  held-sized m h = h .0 .1 .1 .1 .1 .1 .0 .1
 
   from-page : (page : List ℕ) → Bytes page → readOf rows page .answer ≡ Accepted → Read rows page (readOf rows page .meter)
   from-page s bytes e =

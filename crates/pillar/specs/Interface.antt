@@ -31,7 +31,7 @@ abbrev pub bytesOr : Answer → List ℕ → List ℕ → List ℕ
 bytesOr answer.Accepted after before = after
 bytesOr (answer.Refused r) after before = before
 
--- an accepted record goes to the writer: 'writer | 8 | buffer under 558 bytes'
+-- an accepted record goes to the writer: 'writer | 8 | buffer under 558 bytes', now the page's length
 unfoldable pub keptNumber : List EventRow → Outcome → List ℕ → ℕ
 keptNumber rows o page = numberOr (o .answer) (answerNumber (writeAnswer rows (o .meter) page))
 
@@ -51,7 +51,8 @@ freshPage rows page f = keptPage rows (freshOf f) page
 abbrev pub outcomeOn : List EventRow → List ℕ → Call → Outcome
 outcomeOn rows page c = applied rows (readOf rows page .meter) c
 
--- 'kind | 13 | not 1–15; the command's reading fails before the record is touched': before 'reader | 9 | ..', 10, 11; then the call's own
+-- 'kind | 13 | ..; the command's reading fails before the record is touched', and document 02, A3: 'Refusal 13 now means not 1–17': before
+-- 'reader | 9 | ..', 10, 11; then the call's own
 abbrev pub performedNumber : List EventRow → List ℕ → Parsed → ℕ
 performedNumber rows page (Ok c) = numberOr (readOf rows page .answer) (keptNumber rows (outcomeOn rows page c) page)
 performedNumber rows page NoKind = 13
@@ -97,6 +98,6 @@ replayNumber Bad = 101
 replayNumber Short = 102
 replayNumber (Refused n) = n
 
--- 'reader | 9 | length not 558', '10 | a pair differs', '11 | the record would not be sound, or Exceeded above 1'
+-- 'reader | 9 | length not 558', now the page's length, '10 | a pair differs', '11 | the record would not be sound, or Exceeded above 1'
 abbrev pub checkNumber : List EventRow → List ℕ → ℕ
 checkNumber rows page = answerNumber (readOf rows page .answer)

@@ -31,10 +31,11 @@ pub record LawsOf (rows : List EventRow) : Type 0 where
   -- the writer refuses only a short buffer: fresh never answers 12
   pub fresh-answer : (page : List ℕ) (f : Fresh) → SettingsInRange f
       → freshNumber rows page f ≡ numberOr (freshOf f .answer) (cond (leb size (length page)) 0 8)
-  -- 'kind | 13 | not 1–15; the command's reading fails before the record is touched': whatever the page holds
-  pub call-no-kind : (page : List ℕ) (r : Command) → within 1 15 (r .kind) ≡ false → callNumber rows page r ≡ 13
-  -- of a kind from 1 to 15 the reader's refusal of the page comes next
-  pub call-unread : (page : List ℕ) (r : Command) (n : ℕ) → within 1 15 (r .kind) ≡ true → readOf rows page .answer ≡ Refused n
+  -- 'kind | 13 | ..; the command's reading fails before the record is touched', and document 02, A3: 'Refusal 13 now means not 1–17': whatever the page
+  -- holds
+  pub call-no-kind : (page : List ℕ) (r : Command) → within 1 17 (r .kind) ≡ false → callNumber rows page r ≡ 13
+  -- of a kind from 1 to 17 the reader's refusal of the page comes next
+  pub call-unread : (page : List ℕ) (r : Command) (n : ℕ) → within 1 17 (r .kind) ≡ true → readOf rows page .answer ≡ Refused n
       → callNumber rows page r ≡ n
   -- a call on a page that is read answers as the machine does
   pub call-answer : (page : List ℕ) (r : Command) → Bytes page → readOf rows page .answer ≡ Accepted → AllInRange (callsIn (r ∷ []))

@@ -1,49 +1,75 @@
--- The reader's test of the bytes: bytes that pass hold a threshold that its field can hold, and the record of bytes that do not is not sound.
+-- The reader's test of the bytes: bytes that pass hold thresholds that their fields can hold, and the record of bytes that do not is not sound.
 use Rattle.page.proofs.Common.{_≡_, refl, sym, _∙_, Bool, true, false, _&&_, and-true, List, ℕ, _≤_, arith, leb, ltb, leb-true, le-leb, and-left, and-right}
 use Rattle.page.proofs.Common.{numAt, builtIn, isThreshold, isDuration, awaited, soundSettings, soundLimiter, soundLogs, Meter, scalarsOf, soundMeter}
 use Rattle.page.proofs.Common.{soundScalars}
+use Rattle.base.specs.Tests.{within}
 use Rattle.control.specs.Control.{soundControl}
+use Rattle.emergency.specs.declared.Emergency.{Emergency}
+use Rattle.emergency.specs.Emergency.{inRanges, soundEmergency}
+use Rattle.emergency.proofs.Kept.{Which, empty, waits, runs, which, profile-part}
+use Rattle.limiter.specs.declared.Limiter.{Limiter}
 use Rattle.steps.specs.declared.Scalars.{Scalars}
 use Rattle.page.specs.Layout.{layout, start, meterIn, isRecord, holdsSound}
 
--- sound scalars have a threshold of its range
-pub threshold-scalars : (s : Scalars) → soundScalars s ≡ true → isThreshold (s .limiter .threshold) ≡ true
-unfolding soundScalars soundLimiter
-threshold-scalars s e =
-    let l = s .limiter in
-    let settings = and-left (soundSettings l) (ltb (l .run) (awaited l)) (and-right (soundControl (s .control)) (soundLimiter l) e) in
+-- a sound limiter has a threshold of its range
+limiter-threshold : (l : Limiter) → soundLimiter l ≡ true → isThreshold (l .threshold) ≡ true
+unfolding soundLimiter
+limiter-threshold l e =
+    let settings = and-left (soundSettings l) (ltb (l .run) (awaited l)) e in
     and-left (isThreshold (l .threshold)) (isDuration (l .over))
     (and-left (isThreshold (l .threshold) && isDuration (l .over)) (isDuration (l .under)) settings)
 
--- and so has a sound record
-pub threshold-sound : (m : Meter) → soundMeter builtIn m ≡ true → isThreshold (m .limiter .threshold) ≡ true
-unfolding soundMeter
-threshold-sound m e = threshold-scalars (scalarsOf m) (and-left (soundScalars (scalarsOf m)) (soundLogs builtIn (m .logs)) e)
+-- and so has a sound emergency profile, and none at all
+profile-threshold : (e : Emergency) → soundEmergency e ≡ true → isThreshold (e .threshold) ≡ true
+profile-threshold e h = by-state (which e (profile-part e h))
+  where
+    ranged : inRanges e ≡ true → isThreshold (e .threshold) ≡ true
+    ranged r = and-right (within 1 604800 (e .duration)) (isThreshold (e .threshold)) r
+
+    by-state : Which e → isThreshold (e .threshold) ≡ true
+    by-state (empty n) = rw (n .threshold)
+    by-state (waits s r l) = ranged r
+    by-state (runs s r l) = ranged r
+
+-- the two thresholds of a record are in their range
+abbrev thresholds : Meter → Bool
+thresholds m = isThreshold (m .limiter .threshold) && isThreshold (m .emergency .threshold)
+
+thresholds-sound : (m : Meter) → soundMeter builtIn m ≡ true → thresholds m ≡ true
+unfolding soundMeter soundScalars
+thresholds-sound m e =
+    let l = m .limiter in
+    let p = m .emergency in
+    let scalars = and-left (soundControl (m .control) && (soundLimiter l && soundEmergency p)) (soundLogs builtIn (m .logs)) e in
+    let rest = and-right (soundControl (m .control)) (soundLimiter l && soundEmergency p) scalars in
+    rw (limiter-threshold l (and-left (soundLimiter l) (soundEmergency p) rest)) (profile-threshold p (and-right (soundLimiter l) (soundEmergency p) rest))
 
 -- ---- the reader's test of the bytes
 
-valid-is : (s : List ℕ) → layout .valid s start ≡ leb (numAt 1 s 50) 1
+valid-is : (s : List ℕ) → layout .valid s start ≡ leb (numAt 1 s 54) 1
 unfolding layout
 valid-is s = rw (and-true, and-true)
 
-threshold-is : (s : List ℕ) → isThreshold (meterIn s .limiter .threshold) ≡ leb (numAt 4 s 38) 2147483647
+thresholds-are : (s : List ℕ) → thresholds (meterIn s) ≡ leb (numAt 4 s 42) 2147483647 && leb (numAt 4 s 564) 2147483647
 unfolding layout
-threshold-is s = rw (le-leb 0 (numAt 4 s 38) (omega arith))
+thresholds-are s = rw (le-leb 0 (numAt 4 s 42) (omega arith), le-leb 0 (numAt 4 s 564) (omega arith))
 
-pub tests-are : (s : List ℕ) → leb (numAt 1 s 50) 1 && leb (numAt 4 s 38) 2147483647 ≡ isRecord s
-tests-are s = rw (valid-is s, threshold-is s)
+pub tests-are : (s : List ℕ) → leb (numAt 1 s 54) 1 && (leb (numAt 4 s 42) 2147483647 && leb (numAt 4 s 564) 2147483647) ≡ isRecord s
+tests-are s = rw (valid-is s, thresholds-are s)
 
 module _ (s : List ℕ) where
-  -- bytes that pass hold a threshold that its field can hold
-  pub passed-threshold : isRecord s ≡ true → numAt 4 s 38 ≤ 2147483647
-  passed-threshold e =
-      leb-true (numAt 4 s 38) 2147483647 (sym (threshold-is s) ∙ and-right (layout .valid s start) (isThreshold (meterIn s .limiter .threshold)) e)
+  -- bytes that pass hold thresholds that their fields can hold
+  pub passed-thresholds : isRecord s ≡ true → (numAt 4 s 42 ≤ 2147483647) × (numAt 4 s 564 ≤ 2147483647)
+  passed-thresholds e =
+      let both = sym (thresholds-are s) ∙ and-right (layout .valid s start) (thresholds (meterIn s)) e in (
+        leb-true (numAt 4 s 42) 2147483647 (and-left (leb (numAt 4 s 42) 2147483647) (leb (numAt 4 s 564) 2147483647) both),
+        leb-true (numAt 4 s 564) 2147483647 (and-right (leb (numAt 4 s 42) 2147483647) (leb (numAt 4 s 564) 2147483647) both),
+      )
 
   -- bytes that do not pass hold no sound record
   pub failed : isRecord s ≡ false → holdsSound builtIn s ≡ false
   unfolding holdsSound
-  failed e =
-      go (layout .valid s start) (isThreshold (meterIn s .limiter .threshold)) (soundMeter builtIn (meterIn s)) (threshold-sound (meterIn s)) e
+  failed e = go (layout .valid s start) (thresholds (meterIn s)) (soundMeter builtIn (meterIn s)) (thresholds-sound (meterIn s)) e
     where
       go : (v t m : Bool) → (m ≡ true → t ≡ true) → v && t ≡ false → v && m ≡ false
       go true t true h e = sym (h refl) ∙ e
@@ -53,4 +79,4 @@ module _ (s : List ℕ) where
   -- of bytes that pass, the record decides
   pub passed-sound : isRecord s ≡ true → holdsSound builtIn s ≡ soundMeter builtIn (meterIn s)
   unfolding holdsSound
-  passed-sound e = rw (and-left (layout .valid s start) (isThreshold (meterIn s .limiter .threshold)) e)
+  passed-sound e = rw (and-left (layout .valid s start) (thresholds (meterIn s)) e)

@@ -10,7 +10,7 @@ use borrow.Author.Tests.{ltb-true, ltb-false, le-leb}
 use Rattle.codec.specs.Format.{AllHold}
 use Rattle.calls.specs.declared.Call.{Call}
 use Rattle.calls.specs.declared.Call.the-variants.{Sample, RemoteDisconnect, RemoteReconnect, ManualDisconnect, ManualReconnect, SetMode, SetLimiter}
-use Rattle.calls.specs.declared.Call.the-variants.{SetClock, Event, SetAlarmFilter, SetErrorFilter, ClearAlarms, ClearErrors, ClearLog, Script}
+use Rattle.calls.specs.declared.Call.the-variants.{SetClock, Event, SetAlarmFilter, SetErrorFilter, ClearAlarms, ClearErrors, ClearLog, Script, SetGroups, SetProfile}
 use Rattle.calls.specs.declared.Command.{Command}
 use Rattle.calls.specs.declared.Parsed.{Parsed}
 use Rattle.calls.specs.declared.Parsed.the-variants.{Ok, NoKind}
@@ -40,20 +40,22 @@ this-or true c rest i r = i
 this-or false c rest i r = r
 
 -- of any command of numbers of 32 bits
-pub call-range : (r : Command) → r .n1 < 256 ^ 4 → r .n2 < 256 ^ 4 → r .n3 < 256 ^ 4 → ParsedInRange (callOf r)
+pub call-range : (r : Command) → r .n1 < 256 ^ 4 → r .n2 < 256 ^ 4 → r .n3 < 256 ^ 4 → r .n4 < 256 ^ 4 → r .n5 < 256 ^ 4 → ParsedInRange (callOf r)
 unfolding callOf
-call-range r h1 h2 h3 =
+call-range r h1 h2 h3 h4 h5 =
     let k = r .kind in
     let n = word (r .n1) h1 in
     let z = signed-range (r .n1) h1 in
-    let limits : InRange (SetLimiter (signedOf (r .n1)) (r .n2) (r .n3)) = (z, (word (r .n2) h2, word (r .n3) h3)) in
+    let n2 = word (r .n2) h2 in
+    let n3 = word (r .n3) h3 in
+    let n4 = word (r .n4) h4 in
     this-or (eqb k 1) (Sample (signedOf (r .n1))) _ z
     (this-or (eqb k 2) RemoteDisconnect _ tt
     (this-or (eqb k 3) RemoteReconnect _ tt
     (this-or (eqb k 4) ManualDisconnect _ tt
     (this-or (eqb k 5) ManualReconnect _ tt
     (this-or (eqb k 6) (SetMode (r .n1)) _ n
-    (this-or (eqb k 7) (SetLimiter (signedOf (r .n1)) (r .n2) (r .n3)) _ limits
+    (this-or (eqb k 7) (SetLimiter (signedOf (r .n1)) (r .n2) (r .n3)) _ (z, (n2, n3))
     (this-or (eqb k 8) (SetClock (r .n1)) _ n
     (this-or (eqb k 9) (Event (r .n1)) _ n
     (this-or (eqb k 10) (SetAlarmFilter (r .n1)) _ n
@@ -62,14 +64,16 @@ call-range r h1 h2 h3 =
     (this-or (eqb k 13) (ClearErrors (r .n1)) _ n
     (this-or (eqb k 14) (ClearLog (r .n1)) _ n
     (this-or (eqb k 15) (Script (r .n1)) _ n
-    tt))))))))))))))
+    (this-or (eqb k 16) (SetGroups (r .n1) (r .n2) (r .n3) (r .n4) (r .n5)) _ (n, (n2, (n3, (n4, word (r .n5) h5))))
+    (this-or (eqb k 17) (SetProfile (r .n1) (signedOf (r .n2)) (r .n3) (r .n4)) _ (n, (signed-range (r .n2) h2, (n3, n4)))
+    tt))))))))))))))))
 
 module _ (r : Command) (h : recordFormat .Holds r) where
   pub settings-range : SettingsInRange (settingsIn r)
   settings-range = record { threshold = signed-range (r .n2) (h .0 .1 .1 .0); clock = word (r .n5) (h .0 .1 .1 .1 .1 .1) }
 
   pub parsed-range : ParsedInRange (callOf r)
-  parsed-range = call-range r (h .0 .1 .0) (h .0 .1 .1 .0) (h .0 .1 .1 .1 .0)
+  parsed-range = let n = h .0 .1 in call-range r (n .0) (n .1 .0) (n .1 .1 .0) (n .1 .1 .1 .0) (n .1 .1 .1 .1)
 
 with-call : (p : Parsed) (cs : List Call) → ParsedInRange p → AllInRange cs → AllInRange (withCall p cs)
 with-call (Ok c) cs i is = (i, is)

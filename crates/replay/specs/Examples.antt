@@ -36,8 +36,8 @@ only m = 0 ∷ be 4 m ++ (be 4 3000 ++ (be 4 2 ++ (be 4 3 ++ be 4 1000)))
 pub record Examples : Type 0 where
   pub settings : settingsIn firstRecord ≡ exampleSettings
   pub calls : callsIn laterRecords ≡ exampleCalls
-  -- 'kind | 13 | not 1–15': such a record names no call
-  pub no-kind : callsIn (recordOfKind 0 1 ∷ recordOfKind 16 1 ∷ recordOfKind 255 1 ∷ []) ≡ []
+  -- document 02, A3: 'Refusal 13 now means not 1–17': such a record names no call
+  pub no-kind : callsIn (recordOfKind 0 1 ∷ recordOfKind 18 1 ∷ recordOfKind 255 1 ∷ []) ≡ []
   -- 0, and the largest number of 32 bits
   pub zero : decimal 0 ≡ 48 ∷ []
   pub largest : decimal 4294967295 ≡ 52 ∷ 50 ∷ 57 ∷ 52 ∷ 57 ∷ 54 ∷ 55 ∷ 50 ∷ 57 ∷ 53 ∷ []
@@ -50,5 +50,5 @@ pub record Examples : Type 0 where
   -- a refused fresh ends the run before a cut record is seen
   pub refused : replayAnswer (only 7 ++ (1 ∷ [])) [] ≡ Refused 1
   pub cut : replayAnswer (only 5 ++ (1 ∷ [])) [] ≡ Short
-  pub small-buffer : replayAnswer (only 5) (replicate 557 0) ≡ Refused 8
-  pub taken : replayAnswer (only 5) (replicate 558 0) ≡ Written
+  pub small-buffer : replayAnswer (only 5) (replicate 597 0) ≡ Refused 8
+  pub taken : replayAnswer (only 5) (replicate 598 0) ≡ Written

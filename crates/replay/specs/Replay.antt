@@ -46,7 +46,8 @@ laterIn s = recordsFrom 1 s
 abbrev pub settingsIn : Command → Fresh
 settingsIn r = settingsOf (r .n1) (signedOf (r .n2)) (r .n3) (r .n4) (r .n5)
 
--- 'kind | 13 | not 1–15; the command's reading fails before the record is touched': such a record adds no call
+-- 'kind | 13 | ..; the command's reading fails before the record is touched', and document 02, A3: 'Refusal 13 now means not 1–17': such a record adds no
+-- call
 abbrev pub withCall : Parsed → List Call → List Call
 withCall (Ok c) cs = c ∷ cs
 withCall NoKind cs = cs
@@ -85,7 +86,7 @@ abbrev pub unlessRefused : Answer → Replayed → Replayed
 unlessRefused answer.Accepted r = r
 unlessRefused (answer.Refused n) r = Refused n
 
--- once fresh is accepted: 'a cut record .. writes `short` and ends'; 'writer | 8 | buffer under 558 bytes'
+-- once fresh is accepted: 'a cut record .. writes `short` and ends'; 'writer | 8 | buffer under 558 bytes', now the page's length
 abbrev pub endOf : List ℕ → List ℕ → Replayed
 endOf s out = cond (eqb (length s % recordLength) 0) (cond (leb pageLength (length out)) Written (Refused 8)) Short
 
@@ -96,7 +97,7 @@ replayAnswer s out =
     (cond (ltb (length s) recordLength) Short
     (cond (eqb (firstIn s .kind) 0) (unlessRefused (freshAnswer (settingsIn (firstIn s))) (endOf s out)) Bad))
 
--- 'The writer leaves bytes past 558'; whatever else becomes of an input leaves every byte
+-- 'The writer leaves bytes past 558', now `pageLength`; whatever else becomes of an input leaves every byte
 abbrev pub bufferAfter : Replayed → List ℕ → List ℕ → List ℕ
 bufferAfter Written page out = page ++ drop pageLength out
 bufferAfter Empty page out = out

@@ -25,24 +25,25 @@ fn print_area(area: &[u8]) {
     end_line();
 }
 
-// The directory, and the eight areas.
-fn print_page(page: [u8; 558]) {
-    print_area(&page[0..32]);
-    print_area(&page[32..38]);
-    print_area(&page[38..55]);
-    print_area(&page[55..59]);
-    print_area(&page[59..67]);
-    print_area(&page[67..75]);
-    print_area(&page[75..236]);
-    print_area(&page[236..397]);
-    print_area(&page[397..558]);
+// The directory, and the nine areas.
+fn print_page(page: [u8; 598]) {
+    print_area(&page[0..36]);
+    print_area(&page[36..42]);
+    print_area(&page[42..59]);
+    print_area(&page[59..63]);
+    print_area(&page[63..71]);
+    print_area(&page[71..79]);
+    print_area(&page[79..240]);
+    print_area(&page[240..401]);
+    print_area(&page[401..562]);
+    print_area(&page[562..598]);
 }
 
 // The page of the whole file, or that there is none. A file that does not fit the buffer counts as cut:
 // 65,536 is no multiple of a record's 21 bytes.
 fn print_last_page(file: i32) {
     let mut records = io::large_buffer();
-    let mut page = [0u8; 558];
+    let mut page = [0u8; 598];
     let got = io::read_full(file, &mut records);
     let replayed = replay::replay(&records[..got], &mut page);
     let Replayed::Written = replayed else {

@@ -4,12 +4,13 @@ use mathlib.Core.List.{List}
 use Rattle.events.specs.Table.{EventRow}
 use Rattle.control.specs.declared.Request.{Request}
 use Rattle.limiter.specs.declared.Limiter.{Limiter}
+use Rattle.emergency.specs.declared.Emergency.{Emergency}
 use Rattle.history.specs.Effects.{remoteDisconnect, remoteReconnect, manualDisconnect, manualReconnect, AnyCall, sample, request, setMode, setLimiter}
-use Rattle.history.specs.Effects.{setClock, event, setFilter, clearBits, clearLog, script}
-use Rattle.machine.specs.Values.{Values, withLimiters}
+use Rattle.history.specs.Effects.{setClock, event, setFilter, clearBits, clearLog, script, setGroups, setProfile}
+use Rattle.machine.specs.Values.{Values, withLimiters, withEmergency}
 use Rattle.machine.specs.Machine.{Change, Result, refusing, making, decided, armedBy, requestResult, result}
 
--- all calls but the samples, the limiter settings and the manual reconnects
+-- all calls but samples, limiter settings, manual reconnects, and settings of groups and profile
 abbrev pub NoLimiter : AnyCall → Type 0
 NoLimiter (sample ps) = ⊥
 NoLimiter (request remoteDisconnect) = Unit
@@ -24,21 +25,28 @@ NoLimiter (setFilter s n) = Unit
 NoLimiter (clearBits s n) = Unit
 NoLimiter (clearLog n) = Unit
 NoLimiter (script n) = Unit
+NoLimiter (setGroups n ids) = ⊥
+NoLimiter (setProfile w) = ⊥
 
--- a change, with these limiters in its values
-abbrev pub changeWith : List Limiter → Change → Change
-changeWith ls k = record { values = withLimiters (k .values) ls; letter = k .letter; cleared = k .cleared; log = k .log; lines = k .lines }
+-- values with these limiters, and this profile and groups
+abbrev pub valuesWith : List Limiter → Emergency → Values → Values
+valuesWith ls e v = withEmergency (withLimiters v ls) e
+
+-- a change, with these in its values
+abbrev pub changeWith : List Limiter → Emergency → Change → Change
+changeWith ls e k = record { values = valuesWith ls e (k .values); letter = k .letter; cleared = k .cleared; log = k .log; lines = k .lines }
 
 -- a result
-abbrev pub resultWith : List Limiter → Result → Result
-resultWith ls (refusing n) = refusing n
-resultWith ls (making k) = making (changeWith ls k)
+abbrev pub resultWith : List Limiter → Emergency → Result → Result
+resultWith ls e (refusing n) = refusing n
+resultWith ls e (making k) = making (changeWith ls e k)
 
 -- of the machine
 pub record Laws : Type 0 where
-  -- whatever the limiters are, the call leaves them, and all else is as without them
-  pub limiters-left : (rows : List EventRow) (v : Values) (ls : List Limiter) (c : AnyCall) → NoLimiter c
-      → result rows (withLimiters v ls) c ≡ resultWith ls (result rows v c)
-  -- document 02, A5: a request leaves them too, unless it is a manual reconnect that moves the switch: that arms them again; all else is as without them
-  pub limiters-armed : (v : Values) (ls : List Limiter) (q : Request)
-      → requestResult (withLimiters v ls) q ≡ resultWith (armedBy q (decided v q) ls) (requestResult v q)
+  -- whatever limiters, profile and groups are, the call leaves them, and all else is as without them
+  pub limiters-left : (rows : List EventRow) (v : Values) (ls : List Limiter) (e : Emergency) (c : AnyCall) → NoLimiter c
+      → result rows (valuesWith ls e v) c ≡ resultWith ls e (result rows v c)
+  -- document 02, A5: a request leaves them too, unless it is a manual reconnect that moves the switch: that arms the limiters again; all else is as without
+  -- them
+  pub limiters-armed : (v : Values) (ls : List Limiter) (e : Emergency) (q : Request)
+      → requestResult (valuesWith ls e v) q ≡ resultWith (armedBy q (decided v q) ls) e (requestResult v q)

@@ -10,9 +10,9 @@ use Rattle.status.specs.declared.Status.{Status}
 use Rattle.status.specs.declared.StatusStep.{StatusStep}
 use Rattle.status.specs.Status.{statusFrom}
 
--- the most lines that a call owes: a firing and the move that it tries, or call 8's two
+-- the most lines that a call owes, a sample (document 02, A3): a change of the threshold in force, a firing, the move that it tries, and a change again
 abbrev pub mostLines : ℕ
-mostLines = 2
+mostLines = 4
 
 -- numbers in as many places, zeros past them
 abbrev pub inPlaces : List ℕ → List ℕ

@@ -1,4 +1,4 @@
--- The machine's results by what the code learns on its way: the sign of a threshold, the status's step, what the limiter tells of a sample.
+-- The machine's results by what the code learns on its way: the sign of a threshold, the status's step, the letter of a manual reconnect.
 use native.Mathlib.Omega.{arith}
 use mathlib.Core.Path.{_≡_, refl, sym, ap, _∙_}
 use mathlib.Core.Bool.{Bool, true, false, not, cond}
@@ -56,11 +56,11 @@ judged a z o u h e = rw (same-number z h) at e
 
 -- ---- a call that touches no limiter, by the status's step
 pub left-step : (s : Scalars) (c : AnyCall) → NoLimiter c
-    → stepWith (s .limiter) (statusStepOf (statusOf s) (result builtIn (statusValues (statusOf s)) c)) ≡ stepOf s (result builtIn (valuesOf s) c)
+    → stepWith (s .limiter) (s .emergency) (statusStepOf (statusOf s) (result builtIn (statusValues (statusOf s)) c)) ≡ stepOf s (result builtIn (valuesOf s) c)
 left-step s c none =
-    rw (laws .limiters-left builtIn (statusValues (statusOf s)) (s .limiter ∷ []) c none) (go (result builtIn (statusValues (statusOf s)) c))
+    rw (laws .limiters-left builtIn (statusValues (statusOf s)) (s .limiter ∷ []) (s .emergency) c none) (go (result builtIn (statusValues (statusOf s)) c))
   where
-    go : (r : Result) → stepWith (s .limiter) (statusStepOf (statusOf s) r) ≡ stepOf s (resultWith (s .limiter ∷ []) r)
+    go : (r : Result) → stepWith (s .limiter) (s .emergency) (statusStepOf (statusOf s) r) ≡ stepOf s (resultWith (s .limiter ∷ []) (s .emergency) r)
     go (refusing n) = refl
     go (making k) = refl
 
@@ -75,16 +75,16 @@ module _ (s : Scalars) where
   stepBy ls d = statusStepOf (statusOf s) (answering (withLimiters (statusValues (statusOf s)) ls) d)
 
   abbrev withBy : List Limiter → Decision → Step
-  withBy ls d = stepOf s (resultWith (armedBy ManualReconnect d (s .limiter ∷ [])) (answering (withLimiters (statusValues (statusOf s)) ls) d))
+  withBy ls d = stepOf s (resultWith (armedBy ManualReconnect d (s .limiter ∷ [])) (s .emergency) (answering (withLimiters (statusValues (statusOf s)) ls) d))
 
-  moved-by : (ls : List Limiter) (d : Decision) → stepBy ls d .letter ≡ E → stepWith (armed (s .limiter)) (stepBy ls d) ≡ withBy ls d
+  moved-by : (ls : List Limiter) (d : Decision) → stepBy ls d .letter ≡ E → stepWith (armed (s .limiter)) (s .emergency) (stepBy ls d) ≡ withBy ls d
   moved-by ls (Move t c o x) e = refl
   moved-by ls Stay e = cc
   moved-by ls NotListed e = cc
 
   unmoved-by : (ls : List Limiter) (o a b : Bool)
       → let d = cond a (cond b (Move 1 61 o E) Stay) NotListed in
-      OneOf othersThanE (tagOf letters.the-type (stepBy ls d .letter)) → stepWith (s .limiter) (stepBy ls d) ≡ withBy ls d
+      OneOf othersThanE (tagOf letters.the-type (stepBy ls d .letter)) → stepWith (s .limiter) (s .emergency) (stepBy ls d) ≡ withBy ls d
   unmoved-by ls o true true k = absurd (miss othersThanE 4 tt k)
   unmoved-by ls o true false k = refl
   unmoved-by ls o false b k = refl
@@ -92,36 +92,17 @@ module _ (s : Scalars) where
   abbrev reconnectStep : StatusStep
   reconnectStep = statusStepOf (statusOf s) (requestResult (statusValues (statusOf s)) ManualReconnect)
 
-  pub moved-step : reconnectStep .letter ≡ E → stepWith (armed (s .limiter)) reconnectStep ≡ stepOf s (requestResult (valuesOf s) ManualReconnect)
+  pub moved-step : reconnectStep .letter ≡ E → stepWith (armed (s .limiter)) (s .emergency) reconnectStep ≡ stepOf s (requestResult (valuesOf s) ManualReconnect)
   unfolding requestResult
   moved-step e =
       moved-by _ (decided (statusValues (statusOf s)) ManualReconnect) e
-      ∙ ap (stepOf s) (sym (laws .limiters-armed (statusValues (statusOf s)) (s .limiter ∷ []) ManualReconnect))
+      ∙ ap (stepOf s) (sym (laws .limiters-armed (statusValues (statusOf s)) (s .limiter ∷ []) (s .emergency) ManualReconnect))
 
   pub unmoved-step : OneOf othersThanE (tagOf letters.the-type (reconnectStep .letter))
-      → stepWith (s .limiter) reconnectStep ≡ stepOf s (requestResult (valuesOf s) ManualReconnect)
+      → stepWith (s .limiter) (s .emergency) reconnectStep ≡ stepOf s (requestResult (valuesOf s) ManualReconnect)
   unfolding requestResult answered
   unmoved-step k =
       let m = s .control .mode in
       let from = s .control .state in
-      rw (laws .limiters-armed (statusValues (statusOf s)) (s .limiter ∷ []) ManualReconnect, rows)
+      rw (laws .limiters-armed (statusValues (statusOf s)) (s .limiter ∷ []) (s .emergency) ManualReconnect, rows)
       (unmoved-by _ (eqb from 1) (within 1 6 m) (eqb from 2) (rw rows at k))
-
--- ---- call 1, of the one monitored value
-module _ (s : Scalars) (w : Watched) where
-  abbrev v : Values
-  v = valuesOf s
-
-  pub after-none : w .fired ≡ false → stepFor (owing v 3 []) ≡ stepFor (afterSample v (w ∷ []))
-  unfolding any gathered
-  after-none f = rw f
-
-  pub after-over : w .fired ≡ true → w .limiter .exceeded ≡ true
-      → stepFor (moving v (lineNow v 65 ∷ []) (decided v LocalDisconnect)) ≡ stepFor (afterSample v (w ∷ []))
-  unfolding any gathered
-  after-over f e = rw (f, e)
-
-  pub after-under : w .fired ≡ true → w .limiter .exceeded ≡ false
-      → stepFor (moving v (lineNow v 66 ∷ []) (decided v LocalReconnect)) ≡ stepFor (afterSample v (w ∷ []))
-  unfolding any gathered
-  after-under f e = rw (f, e)

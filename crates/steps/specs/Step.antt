@@ -1,7 +1,8 @@
 -- What a call makes of the scalars, as the code has it: the next scalars, the answer, the letter of its move, and what is done to the
 -- logs.
-use mathlib.Core.List.{List, [], map}
-use lib.ListN.{length}
+use Prim.Native.Nat.{ℕ, _+_}
+use mathlib.Core.List.{List, [], _∷_, map}
+use lib.ListN.{length, getD, set}
 use Rattle.events.specs.Table.{EventRow}
 use Rattle.logs.specs.Layout.{lineClock, lineCode}
 use Rattle.calls.specs.declared.Call.{Call}
@@ -10,6 +11,7 @@ use Rattle.calls.specs.declared.Letter.the-variants.{None}
 use Rattle.history.specs.OnePhase.{asCall}
 use Rattle.machine.specs.Machine.{Change, Result, refusing, making, result}
 use Rattle.limiter.specs.declared.Limiter.{Limiter}
+use Rattle.emergency.specs.declared.Emergency.{Emergency}
 use Rattle.status.specs.declared.StatusStep.{StatusStep}
 use Rattle.status.specs.Step.{inPlaces}
 use Rattle.steps.specs.declared.Scalars.{Scalars}
@@ -39,11 +41,11 @@ abbrev pub stepOf : Scalars → Result → Step
 stepOf s (refusing n) = record { scalars = s; answer = Refused n; letter = None; cleared = 0; log = 0; count = 0; clocks = inPlaces []; codes = inPlaces [] }
 stepOf s (making k) = stepFor k
 
--- a step of the status, with a limiter
-abbrev pub stepWith : Limiter → StatusStep → Step
-stepWith l x =
+-- a step of the status, with a limiter, and a profile and groups
+abbrev pub stepWith : Limiter → Emergency → StatusStep → Step
+stepWith l e x =
     record {
-      scalars = scalarsWith l (x .status);
+      scalars = scalarsWith l e (x .status);
       answer = x .answer;
       letter = x .letter;
       cleared = x .cleared;
@@ -51,4 +53,32 @@ stepWith l x =
       count = x .count;
       clocks = x .clocks;
       codes = x .codes;
+    }
+
+-- a step with a line of this code, at its scalars' clock, before its first three places
+abbrev pub ledBy : Step → ℕ → Step
+ledBy x code =
+    record {
+      scalars = x .scalars;
+      answer = x .answer;
+      letter = x .letter;
+      cleared = x .cleared;
+      log = x .log;
+      count = x .count + 1;
+      clocks = x .scalars .clock ∷ getD (x .clocks) 0 0 ∷ getD (x .clocks) 1 0 ∷ getD (x .clocks) 2 0 ∷ [];
+      codes = code ∷ getD (x .codes) 0 0 ∷ getD (x .codes) 1 0 ∷ getD (x .codes) 2 0 ∷ [];
+    }
+
+-- with one behind its lines
+abbrev pub endedBy : Step → ℕ → Step
+endedBy x code =
+    record {
+      scalars = x .scalars;
+      answer = x .answer;
+      letter = x .letter;
+      cleared = x .cleared;
+      log = x .log;
+      count = x .count + 1;
+      clocks = set (x .clocks) (x .count) (x .scalars .clock);
+      codes = set (x .codes) (x .count) code;
     }

@@ -12,11 +12,12 @@ mod areas;
 
 use calls::Answer;
 use meter::Meter;
+use page::EMERGENCY;
 use page::FIRST_LOG;
 use page::PAGE_LEN;
 use steps::Scalars;
 
-// Writes the record's page into the first 558 bytes of the buffer. Refuses a record that is not
+// Writes the record's page into the first 598 bytes of the buffer. Refuses a record that is not
 // sound with 12, then a buffer that is too short with 8, and then writes nothing.
 pub fn write_page(m: Meter, out: &mut [u8]) -> Answer
     ensures { λ r. ⌜ (r ≡ writeAnswer builtIn m (now (out .entry))) × (now (out .exit) ≡ written builtIn m (now (out .entry))) ⌝ }
@@ -48,5 +49,6 @@ pub fn write_sound<'a>(
     }
     areas::put_scalars(out, scalars);
     areas::put_logs(out, FIRST_LOG, counts, clocks, codes);
+    areas::put_emergency(out, EMERGENCY, scalars.emergency);
     Answer::Accepted
 }

@@ -3,8 +3,8 @@
 use pillar::{Answer, PAGE, Settings};
 
 /// Where the page has the control state and the openings.
-const CONTROL_STATE: usize = 33;
-const OPENINGS: usize = 34;
+const CONTROL_STATE: usize = 37;
+const OPENINGS: usize = 38;
 
 const CALLS: [(u32, i32); 14] = [
     (1, 3000),

@@ -54,6 +54,7 @@ in-range : (c : tie.After-apply-sound) → InRange (call c)
 in-range c =
     let p = reading (read c) in
     named-range _ _ _ (p .before .before .read-kind .ensures .0) (p .parsed .given .1) (search needs) (search needs) (search needs)
+    (search needs) (search needs)
 
 applies : (c : tie.After-apply-sound) → left c ≡ applied builtIn (given c) (call c)
 applies c =

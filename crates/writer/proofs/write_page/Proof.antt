@@ -1,5 +1,5 @@
-use Rattle.page.proofs.Common.{_≡_, _∙_, sym, ap, _&&_, List, ℕ, _<_, _^_, arith, getD, take, Width, w8, w32, Fits, bits, needs, not-true, not-false, builtIn}
-use Rattle.page.proofs.Common.{Accepted, Refused, soundScalars, Meter, soundMeter}
+use Rattle.page.proofs.Common.{_≡_, _∙_, sym, ap, _&&_, List, ℕ, _<_, _^_, arith, getD, take, Width, w8, w16, w32, Fits, bits, needs, not-true, not-false}
+use Rattle.page.proofs.Common.{builtIn, Accepted, Refused, soundScalars, Meter, soundMeter}
 use Rattle.calls.specs.declared.Answer.{Answer}
 use Rattle.meter.proofs.Tail.{sound-is}
 use Rattle.page.specs.Layout.{size, writeAnswer, written, acceptedOutcome, readOf}
@@ -41,6 +41,10 @@ typed c =
       counts = λ i. fits w8 (getD (c .args .t1 .logs .counts) i 0) (search needs);
       clocks = λ i. omega (arith, fits w32 (getD (c .args .t1 .logs .clocks) i 0) (search needs));
       codes = λ i. fits w8 (getD (c .args .t1 .logs .codes) i 0) (search needs);
+      id = search needs;
+      activation = search needs;
+      eight = search needs;
+      ids = λ i. fits w16 (getD (c .args .t1 .emergency .ids) i 0) (search needs);
     }
 
 -- what the writer promises, by what it answers and leaves

@@ -20,18 +20,19 @@ returns c e = let l = lt-leb _ _ (c .if1 .taken) in (rw (e, l), rw (e, l))
 returns-2 : tie.Need-returns-2
 unfolding writeAnswer written
 returns-2 c e =
-    let g = c .before .before in
+    let last = c .before .before in
+    let g = last .before .before .before .before in
     let p = g .before .before .before .before in
     let s = p .before .before .before .before in
     let room = p .before .before .if1 .left in
     let l = le-leb _ _ room in (
       rw (e, l),
       rw (e, l)
-          (page-left (s .args .out .now) (p .put-scalars .last .0) (g .put-logs .last .0) (given s) _ room refl
-          (p .put-scalars .ensures) (g .put-logs .ensures (logs-sound (given s) e))),
+          (page-left (s .args .out .now) (p .put-scalars .last .0) (g .put-logs .last .0) (last .put-emergency .last .0) (given s) _ room refl
+          (p .put-scalars .ensures) (g .put-logs .ensures (logs-sound (given s) e)) (last .put-emergency .ensures)),
     )
 
 pub write-sound-spec : {M : Type 1} → statement M
 write-sound-spec =
     tie.close
-    (tie.spec returns (λ c κs. search needs) (λ c κs. search needs) (λ c. search needs) returns-2)
+    (tie.spec returns (λ c κs. search needs) (λ c κs. search needs) (λ c κs. search needs) (λ c. search needs) returns-2)

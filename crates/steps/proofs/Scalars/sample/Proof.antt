@@ -1,38 +1,47 @@
-use mathlib.Core.Path.{_≡_, _∙_}
+use mathlib.Core.Path.{_≡_, ap, ap₂, _∙_}
+use lib.IntN.{ℤ}
+use mir.Syntax.{w32}
+use mir.Val.{SFits}
 use borrow.Author.Needs.{needs}
-use borrow.Author.Tests.{not-true, not-false}
-use Rattle.base.specs.Tests.{eachFrom}
+use Rattle.base.specs.Tests.{eqZ}
 use Rattle.limiter.specs.Limiter.{sampledPower}
-use Rattle.machine.specs.Machine.{sampleResult}
-use Rattle.steps.proofs.Steps.{after-none, after-over, after-under}
+use Rattle.emergency.specs.Emergency.{inForce}
+use Rattle.steps.proofs.Steps.{same-number}
+use Rattle.steps.proofs.Samples.{sampled-normal, profile-made, sampled-profile}
 use Rattle.steps.proofs.Scalars.sample.Statement.{statement}
 use Rattle.steps.proofs.Scalars.sample.Tie as tie
 
-watched-is : (c : tie.After-sample) → c .sample .result ≡ sampledPower (c .before .args .self .limiter) (c .before .args .power)
-watched-is c = c .sample .ensures .0 ∙ search needs
-
-returns : tie.Need-returns
-unfolding sampleResult eachFrom
-returns c =
-    let n = c .before .before .before .before .before in
-    let w = n .before .before in
-    rw (← watched-is w, ← n .next-held .ensures, c .with .ensures, c .before .accepted .ensures, c .before .before .status .ensures)
-    (after-none _ (w .sample .result) (not-true _ (c .before .before .before .if1 .taken)))
+-- the normal threshold, which is handed on as its bits
+normal : (c : tie.After-struct-told) → SFits w32 (c .before .before .before .args .self .limiter .threshold)
+normal c = record { sfits = c .struct-told .given .0 .1 }
 
 pub sample-spec : {M : Type 1} → statement M
-unfolding sampleResult eachFrom
 sample-spec {M} =
-    let answers = tie.spec {M = M} (λ c κs. search needs) (λ c κs. search needs) (λ c κs. search needs) (λ c κs. search needs) (λ c κs. search needs)
-    returns (λ c κs. search needs)
+    let answers = tie.spec {M = M} (λ c κs. search needs) (λ c κs. search needs) (λ c κs. search needs)
     (λ c.
-    let n = c .before .before .before .before in
-    let w = n .before .before in
-    rw (← watched-is w, ← n .next-held .ensures)
-    (c .fired .ensures ∙ after-over _ (w .sample .result) (not-false _ (c .before .before .if1 .left)) (c .before .if2 .taken)))
-    (λ c κs. search needs)
+    let made = c .before .before in
+    let told = made .before .before .before in
+    let start = told .before .before .before in
+    sampled-normal (start .args .self) (start .args .power) (made .before .if1 .taken) (told .before .before .next-held .ensures)
+    (made .sample .ensures .0 ∙ ap₂ (sampledPower (start .args .self .limiter)) (same-number _ (normal told)) (same-number _ (start .fits .power)))
+    (c .watched .ensures))
+    (λ c κs. search needs) (λ c κs. search needs) (λ c κs. search needs) (λ c κs. search needs) (λ c κs. search needs) (λ c κs. search needs) (λ c κs. search needs) (λ c κs. search needs) (λ c κs. search needs) (λ c κs. search needs) (λ c κs. search needs) (λ c κs. search needs) (λ c κs. search needs)
     (λ c.
-    let n = c .before .before .before .before in
-    let w = n .before .before in
-    rw (← watched-is w, ← n .next-held .ensures)
-    (c .fired2 .ensures ∙ after-under _ (w .sample .result) (not-false _ (c .before .before .if1 .left)) (c .before .if2 .left)))
+    let fired = c .before .before in
+    let restarted = fired .before in
+    let sampled = restarted .before .before in
+    let same = sampled .before .before in
+    let after = same .before .before in
+    let during = after .before .before in
+    let before = during .before .before in
+    let told = before .before .before .before in
+    let start = told .before .before .before in
+    let threshold = same-number _ (normal told) in
+    sampled-profile (start .args .self) (start .args .power) (told .before .before .next-held .result) (during .before .start .result) (after .before .end .result)
+    (before .in-force .result) (during .in-force2 .result) (after .in-force3 .result)
+    (told .before .before .next-held .ensures) (before .in-force .ensures ∙ ap (inForce (start .args .self .emergency)) threshold) (during .before .start .ensures .0)
+    (during .in-force2 .ensures ∙ ap (inForce (during .before .start .result)) threshold) (after .before .end .ensures) (after .in-force3 .ensures ∙ ap (inForce (after .before .end .result)) threshold)
+    (profile-made (start .args .self) (start .args .power) _ _ (before .in-force .result) (during .in-force2 .result) (after .in-force3 .result)
+    (same .before .equal .ensures ∙ search needs) (same .equal2 .ensures ∙ search needs) (sampled .before .restarted .ensures)
+    (sampled .sample2 .ensures .0 ∙ search needs) (restarted .restarted2 .ensures) (fired .watched2 .ensures) (c .before .led-by-change .ensures) (c .ended-by-change .ensures)))
     in tie.close answers

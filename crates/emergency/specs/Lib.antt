@@ -1,0 +1,3 @@
+pub mod Emergency
+pub mod Laws
+pub mod NearMisses
