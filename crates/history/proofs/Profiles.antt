@@ -16,14 +16,19 @@ use Rattle.base.specs.Tests.{within, among, every, any, gathered, eqZ}
 use Rattle.base.proofs.Bools.{and-left}
 use Rattle.events.specs.Line.{Line, line, isLog}
 use Rattle.events.specs.Table.{EventRow, lookup}
-use Rattle.history.specs.Effects.{AnyFresh, Profile, RequestCall, remoteDisconnect, remoteReconnect, AnyCall, sample as sampleCall, request, setMode, setLimiter, setClock, event, setFilter, clearBits, clearLog, script, setGroups, setProfile, Reading, refused, accepted, listedModes, readRequest, readEvent, reading, Effect, sampled, requested, modeSet, limitsSet, clockSet, occurred, filterSet, bitsCleared, logCleared, groupsSet, profileSet}
+use Rattle.history.specs.Effects.{AnyFresh, Profile, RequestCall, remoteDisconnect, remoteReconnect, AnyCall, sample as sampleCall, request, setMode}
+use Rattle.history.specs.Effects.{setLimiter, setClock, event, setFilter, clearBits, clearLog, script, setGroups, setProfile, Reading, refused}
+use Rattle.history.specs.Effects.{accepted, listedModes, readRequest, readEvent, reading, Effect, sampled, requested, modeSet, limitsSet, clockSet}
+use Rattle.history.specs.Effects.{occurred, filterSet, bitsCleared, logCleared, groupsSet, profileSet}
 use Rattle.history.specs.Last.{History, last, modeOf, clockOf, limitsOf, thresholdOf, numberAt}
-use Rattle.history.specs.Profile.{groupsIn, groupsOf, profileIn, profileOf, clocksSince, fromReached, governed, ProfileState, noProfile, waiting, active, stateBy, stateAt, profileState, thresholdBy, thresholdInForce, thresholdWith, thresholdAt}
+use Rattle.history.specs.Profile.{groupsIn, groupsOf, profileIn, profileOf, clocksSince, fromReached, governed, ProfileState, noProfile, waiting}
+use Rattle.history.specs.Profile.{active, stateBy, stateAt, profileState, thresholdBy, thresholdInForce, thresholdWith, thresholdAt}
 use Rattle.history.specs.Limiter.{Observation, judged, sinceSetting, exceeded, trailing, run, monitoredValues}
 use Rattle.history.specs.Switch.{settingOf, changeSeen, observations, switchOf}
 use Rattle.history.specs.Logs.{when, moves, localCode, firingLines, changeLines, owedBy}
 use Rattle.history.specs.Account.{grown, acceptedCalls}
-use Rattle.history.specs.Splits.{Each, NonePicks, Latest, LatestElse, latest, never, samplesIn, NoneSet, NotReached, Waits, Begun, InState, noneEver, waits, runs, ended}
+use Rattle.history.specs.Splits.{Each, NonePicks, Latest, LatestElse, latest, never, samplesIn, NoneSet, NotReached, Waits, Begun, InState, noneEver}
+use Rattle.history.specs.Splits.{waits, runs, ended}
 use Rattle.history.specs.Laws.{Governs}
 use Rattle.history.proofs.Lists.{each-none, each-more, each-first, each-rest, latest-or-none, kept}
 use Rattle.history.proofs.Splits.{some≢none, last-split}

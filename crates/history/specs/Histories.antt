@@ -373,7 +373,9 @@ pub record Histories : Type 0 where
   pub equal-thresholds : disconnectLog 3 3 (fourWatts ∷ profile 3 0 1 ∷ fourWatts ∷ fourWatts ∷ []) ≡ line 1003 65 ∷ line 1003 64 ∷ []
   -- document 02, A3: the starting sample belongs to the new stretch, the last governed one does not to the next
   pub change-places :
-      limiterValues (fresh 6 1 3 1 0) (groups ∷ profile 3 0 6 ∷ Sample (pos 9) ∷ []) ∷ limiterValues (fresh 0 2 4 2 0) (groups ∷ profile 3 0 1 ∷ fourWatts ∷ []) ∷ []
+      limiterValues (fresh 6 1 3 1 0) (groups ∷ profile 3 0 6 ∷ Sample (pos 9) ∷ [])
+      ∷ limiterValues (fresh 0 2 4 2 0) (groups ∷ profile 3 0 1 ∷ fourWatts ∷ [])
+      ∷ []
       ≡ (3, 1, false, 1) ∷ (4, 2, false, 0) ∷ []
   -- document 02, A3: '.. the first sample whose advanced clock has reached activation ..': activation past, at the sample's clock, after it; a held clock
   pub activations :

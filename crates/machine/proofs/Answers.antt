@@ -29,7 +29,8 @@ use Rattle.history.specs.Effects.{setProfile, Effect, requested}
 use Rattle.history.specs.Effects.{listedModes, Reading, refused, accepted, readRequest, readLimits, readEvent, reading}
 use Rattle.machine.specs.Values.{Values, State}
 use Rattle.machine.specs.Machine.{Result, refusing, making, answeredWith, moving, decided, answering, armedValues, requestResult, modeResult}
-use Rattle.machine.specs.Machine.{limiterResult, occurring, eventResult, clearLogResult, scriptResult, groupsResult, profileResult, requestOf, result, Change}
+use Rattle.machine.specs.Machine.{limiterResult, occurring, eventResult, clearLogResult, scriptResult, groupsResult, profileResult, requestOf, result}
+use Rattle.machine.specs.Machine.{Change}
 use Rattle.machine.specs.Machine.{stateAfter}
 use Rattle.machine.specs.Settings.{limitsAnswer}
 use Rattle.machine.specs.Ranges.{isId, AnyInRange}

@@ -14,7 +14,8 @@ use Rattle.base.proofs.Every.{every-append, every-drop}
 use Rattle.events.specs.Line.{Line, line, isLog, newest}
 use Rattle.events.specs.Table.{EventRow, position, lawful}
 use Rattle.history.specs.Effects.{AnyFresh, RequestCall, remoteDisconnect, remoteReconnect, manualDisconnect, manualReconnect, WhichRegister, alarms}
-use Rattle.history.specs.Effects.{errors, Effect, sampled, requested, modeSet, limitsSet, clockSet, occurred, filterSet, bitsCleared, logCleared, groupsSet, profileSet}
+use Rattle.history.specs.Effects.{errors, Effect, sampled, requested, modeSet, limitsSet, clockSet, occurred, filterSet, bitsCleared, logCleared, groupsSet}
+use Rattle.history.specs.Effects.{profileSet}
 use Rattle.history.specs.Last.{History, modeOf, clockOf}
 use Rattle.history.specs.Profile.{thresholdInForce, thresholdAt}
 use Rattle.history.specs.Limiter.{firesOver, firesUnder, monitoredValues}

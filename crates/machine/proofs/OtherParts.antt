@@ -12,7 +12,8 @@ use Rattle.control.specs.declared.Request.the-variants as request
 use Rattle.control.specs.Control.{modeDecision, inMode}
 use Rattle.limiter.specs.declared.Watched.{Watched}
 use Rattle.emergency.specs.Emergency.{withGroups, withProfile, started, ended}
-use Rattle.history.specs.Effects.{alarms, errors, Effect, sampled, requested, modeSet, limitsSet, clockSet, occurred, filterSet, bitsCleared, logCleared, groupsSet, profileSet}
+use Rattle.history.specs.Effects.{alarms, errors, Effect, sampled, requested, modeSet, limitsSet, clockSet, occurred, filterSet, bitsCleared, logCleared}
+use Rattle.history.specs.Effects.{groupsSet, profileSet}
 use Rattle.machine.specs.Values.{Values, withControl, withLimiters, withClock, withEmergency}
 use Rattle.machine.specs.Machine.{moving, decided, armedValues, requestOf, firedLines, disconnectTried, reconnectTried, sampledEach, sameThreshold}
 use Rattle.machine.specs.Machine.{changeLines, afterSample, sampleResult}

@@ -44,7 +44,8 @@ use Rattle.machine.specs.Settings.{limitsAnswer}
 use Rattle.machine.specs.Sound.{soundValues, soundState}
 use Rattle.machine.specs.Machine.{Change, Result, refusing, making, owing, answeredWith, lineNow, moving, decided, requestOf}
 use Rattle.machine.specs.Machine.{answering, armedValues, requestResult, sampledEach, firedLines, disconnectTried, reconnectTried, afterSample}
-use Rattle.machine.specs.Machine.{sampleResult, modeResult, settingsEach, limiterResult, occurring, eventResult, clearLogResult, scriptResult, groupsResult}
+use Rattle.machine.specs.Machine.{sampleResult, modeResult, settingsEach, limiterResult, occurring, eventResult, clearLogResult, scriptResult}
+use Rattle.machine.specs.Machine.{groupsResult}
 use Rattle.machine.specs.Machine.{sameThreshold, restartedBy, changeLines, sampledValue, followed, profileResult, result}
 use Rattle.machine.specs.Fresh.{freshLimiter, freshValues}
 use Rattle.machine.specs.Ranges.{AnySettings, AnyInRange}

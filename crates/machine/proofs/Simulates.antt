@@ -12,7 +12,8 @@ use Rattle.base.specs.Tests.{every}
 use Rattle.events.specs.Line.{newest}
 use Rattle.events.specs.Table.{EventRow, lawful}
 use Rattle.calls.specs.Calls.{Word}
-use Rattle.history.specs.Effects.{AnyFresh, AnyCall, alarms, errors, Effect, Reading, refused, accepted, reading, sampled, requested, modeSet, limitsSet, clockSet, occurred, filterSet, bitsCleared, logCleared, groupsSet, profileSet}
+use Rattle.history.specs.Effects.{AnyFresh, AnyCall, alarms, errors, Effect, Reading, refused, accepted, reading, sampled, requested, modeSet, limitsSet}
+use Rattle.history.specs.Effects.{clockSet, occurred, filterSet, bitsCleared, logCleared, groupsSet, profileSet}
 use Rattle.history.specs.Last.{History, last, samplesSince, modeOf}
 use Rattle.history.specs.Profile.{groupsOf, clocksSince, ProfileState, noProfile, waiting, active, profileState}
 use Rattle.history.proofs.Profiles.{profile-waits}

@@ -29,7 +29,8 @@ use Rattle.limiter.specs.declared.Watched.{Watched}
 use Rattle.emergency.specs.declared.Emergency.{Emergency}
 use Rattle.emergency.specs.Emergency.{ended}
 use Rattle.history.specs.Effects.{AnyFresh, RequestCall, remoteDisconnect, remoteReconnect, manualDisconnect, manualReconnect, alarms, errors, Effect}
-use Rattle.history.specs.Effects.{sampled, requested, modeSet, limitsSet, clockSet, occurred, filterSet, bitsCleared, logCleared, groupsSet, profileSet, listedModes}
+use Rattle.history.specs.Effects.{sampled, requested, modeSet, limitsSet, clockSet, occurred, filterSet, bitsCleared, logCleared, groupsSet, profileSet}
+use Rattle.history.specs.Effects.{listedModes}
 use Rattle.history.specs.Last.{History, otherwise, given, last, modeOf, clockOf}
 use Rattle.history.specs.Profile.{thresholdInForce, thresholdAt}
 use Rattle.history.specs.Limiter.{firesOver, firesUnder, monitoredValues}

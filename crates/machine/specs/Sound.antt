@@ -1,5 +1,6 @@
 -- 'A record is sound if these ranges hold, mode 0 has switch 1, Run is below Over (not Exceeded) or below Under (Exceeded), each log holds only
--- its own codes ..', of a meter's values; of profile and groups document 02, A3, 'Sound means: ..' (`soundEmergency`). The ranges of 32 bits are held by the fields' types.
+-- its own codes ..', of a meter's values; of profile and groups document 02, A3, 'Sound means: ..' (`soundEmergency`). The ranges of
+-- 32 bits are held by the fields' types.
 use mathlib.Core.Bool.{Bool, _&&_}
 use mathlib.Core.List.{List}
 use Rattle.base.specs.Tests.{every}
