@@ -3,7 +3,8 @@ use Prim.Native.Nat.{ℕ, _≤_}
 use native.Mathlib.Omega.{arith}
 use mathlib.Core.Path.{_≡_, refl, ap, _∙_, sym}
 use mathlib.Core.Bool.{Bool, true, _&&_, cond}
-use mathlib.Core.List.{List, map}
+use mathlib.Core.List.{List, [], map}
+use lib.IntN.{ℤ}
 use lib.ListN.{length, take, length-map, length-append}
 use lib.Seq.{take-at, length-take-le}
 use Rattle.base.proofs.Bools.{by-test, and-right}
@@ -16,19 +17,24 @@ use Rattle.logs.specs.Layout.{Sized, lineClock, lineCode, laid, listsOf, soundL
 use Rattle.logs.proofs.Read.{read-short, read-three, laid-lists}
 use Rattle.logs.proofs.Laid.{zeroed-laid, extended-laid}
 use Rattle.logs.proofs.Inverse.{lists-sound}
+use Rattle.logs.proofs.Same.{none-appended}
 use Rattle.logs.proofs.Kept.{emptied-sound, lists-short, lists-length}
 use Rattle.calls.specs.declared.Call.{Call}
-use Rattle.calls.specs.declared.Answer.the-variants.{Refused}
+use Rattle.calls.specs.declared.Call.the-variants.{Sample}
+use Rattle.calls.specs.declared.Answer.the-variants.{Accepted, Refused}
+use Rattle.calls.specs.declared.Letter.the-variants.{None}
 use Rattle.calls.specs.declared.Command.{Command}
 use Rattle.calls.specs.declared.Parsed.{Parsed}
 use Rattle.calls.specs.declared.Parsed.the-variants.{Ok, NoKind}
 use Rattle.calls.specs.Calls.{callOf}
-use Rattle.machine.specs.Machine.{Change, Result, refusing, making}
+use Rattle.machine.specs.Machine.{Change, Result, refusing, making, owing}
 use Rattle.steps.specs.declared.Scalars.{Scalars}
 use Rattle.steps.specs.declared.Step.{Step}
-use Rattle.steps.specs.Scalars.{soundScalars}
+use Rattle.steps.specs.declared.QuietSample.{QuietSample}
+use Rattle.steps.specs.Scalars.{valuesOf, soundScalars}
 use Rattle.status.specs.Step.{inPlaces}
-use Rattle.steps.specs.Step.{resultOf, stepOf}
+use Rattle.steps.specs.Step.{resultOf, stepFor, stepOf, quietSample}
+use Rattle.steps.proofs.Samples.{quiet-made}
 use Rattle.meter.specs.declared.Meter.{Meter}
 use Rattle.meter.specs.declared.Outcome.{Outcome}
 use Rattle.meter.specs.State.{scalarsOf, withLogs}
@@ -89,6 +95,15 @@ finished rows m c s g₀ g steps clears adds = rw (adds, clears, steps) (go (res
     go : (r : Result) → leftBy m (stepOf (scalarsOf m) r) ≡ leftIn m r
     go (refusing n) = nothing-owed m n
     go (making k) = rw (first-lines lineClock (k .lines), first-lines lineCode (k .lines))
+
+-- what a quiet sample leaves: its scalars, and the arrays as they are
+pub quiet-left : (rows : List EventRow) (m : Meter) (p : ℤ) (q : QuietSample) → q ≡ quietSample (scalarsOf m) p → q .quiet ≡ true
+    → outcomeOf (record { scalars = q .scalars; answer = Accepted; letter = None }) (m .logs .counts) (m .logs .clocks) (m .logs .codes)
+    ≡ carriedOutInParts rows m (Sample p)
+unfolding zeroedArrays uncounted zeroed
+quiet-left rows m p q is quiet =
+    finished rows m (Sample p) (stepFor (owing (valuesOf (q .scalars)) 3 [])) (m .logs) (m .logs)
+    (rw is (quiet-made (scalarsOf m) p (rw is at quiet))) refl (none-appended 3 [] [] (m .logs) refl)
 
 -- ---- of arrays of their types' lengths
 module _ (rows : List EventRow) (m : Meter) where

@@ -7,9 +7,10 @@ use mathlib.Core.List.{List, [], _∷_, _++_, append-nil, append-assoc}
 use lib.Dec.{eqb, leb}
 use lib.IntN.{ℤ}
 use lib.ListN.{length}
-use borrow.Author.Tests.{lt-leb, leb-false}
+use borrow.Author.Tests.{lt-leb, leb-false, eqb-true, not-true}
 use Rattle.base.specs.Numbers.{held}
 use Rattle.base.specs.Tests.{any, gathered, eachFrom, eqZ}
+use Rattle.base.proofs.Bools.{and-left, and-right}
 use Rattle.base.proofs.Signed.{same-number}
 use Rattle.events.specs.Line.{Line, line}
 use Rattle.control.specs.declared.Decision.{Decision}
@@ -26,7 +27,7 @@ use Rattle.machine.specs.Machine.{reconnectTried, afterSample, followed, sample
 use Rattle.steps.specs.declared.Scalars.{Scalars}
 use Rattle.steps.specs.declared.Step.{Step}
 use Rattle.steps.specs.Scalars.{valuesOf}
-use Rattle.steps.specs.Step.{stepFor, ledBy, endedBy}
+use Rattle.steps.specs.Step.{quietSample, stepFor, ledBy, endedBy}
 
 -- ---- what the one limiter tells
 module _ (s : Scalars) (w : Watched) where
@@ -239,38 +240,31 @@ module _ (s : Scalars) (p : ℤ) where
   unfolding sampleResult eachFrom
   sample-made = let d = started (held (s .clock + 1)) (s .emergency) in made d (ended d)
 
-  -- without a profile: judged by the normal threshold, and no other is in force before or after
-  abbrev pub watchedNormal : Watched
-  watchedNormal = sampledPower (s .limiter) (s .limiter .threshold) p
-
-  abbrev pub scalarsNormal : Scalars
-  scalarsNormal =
-      record {
-        control = s .control;
-        limiter = watchedNormal .limiter;
-        clock = held (s .clock + 1);
-        alarms = s .alarms;
-        errors = s .errors;
-        emergency = s .emergency;
-      }
-
-  abbrev normalStep : Step
-  normalStep = stepFor (afterSample (valuesOf scalarsNormal) [] (watching (watchedNormal .limiter) (watchedNormal .fired) ∷ []))
-
-  pub none-made : s .emergency .state ≡ 0 → normalStep ≡ stepFor (sampleResult (valuesOf s) (p ∷ []))
-  none-made z = sym (sample-made ∙ ap₂ madeStep started-none ended-none ∙ quiet)
+  -- without a profile no other threshold is in force before or after; a sample that does not fire either owes no line
+  pub quiet-made : quietSample s p .quiet ≡ true
+      → stepFor (owing (valuesOf (quietSample s p .scalars)) 3 []) ≡ stepFor (sampleResult (valuesOf s) (p ∷ []))
+  quiet-made q = sym (sample-made ∙ ap₂ madeStep started-none ended-none ∙ unchanged ∙ sym (after-none (quietSample s p .scalars) w silent))
     where
       e : Emergency
       e = s .emergency
 
+      w : Watched
+      w = sampledPower (s .limiter) (s .limiter .threshold) p
+
+      none : e .state ≡ 0
+      none = eqb-true (e .state) 0 (and-left (eqb (e .state) 0) (not (w .fired)) q)
+
+      silent : w .fired ≡ false
+      silent = not-true (w .fired) (and-right (eqb (e .state) 0) (not (w .fired)) q)
+
       started-none : started (held (s .clock + 1)) e ≡ e
-      started-none = rw z
+      started-none = rw none
 
       ended-none : ended (started (held (s .clock + 1)) e) ≡ e
-      ended-none = ap ended started-none ∙ rw z
+      ended-none = ap ended started-none ∙ rw none
 
-      quiet : madeStep e e ≡ normalStep
-      quiet = rw (same-number (inForce e (s .limiter .threshold)), z)
+      unchanged : madeStep e e ≡ stepFor (afterSample (valuesOf (quietSample s p .scalars)) [] (w ∷ []))
+      unchanged = rw (same-number (inForce e (s .limiter .threshold)), none)
 
   -- ---- the same as the code comes to it, step by step
   abbrev scalarsWith : ℕ → Limiter → Emergency → Scalars
@@ -280,15 +274,6 @@ module _ (s : Scalars) (p : ℤ) where
   -- what a sample that fired or not makes of scalars
   unfoldable pub firedStep : Scalars → Bool → Step
   firedStep next fired = stepFor (afterSample (valuesOf next) [] (watching (next .limiter) fired ∷ []))
-
-  pub sampled-normal : {now : ℕ} {w : Watched} {z : Step} → s .emergency .state ≡ 0 → now ≡ held (s .clock + 1) → w ≡ watchedNormal
-      → z ≡ stepFor (afterSample (valuesOf (scalarsWith now (w .limiter) (s .emergency))) [] (watching (w .limiter) (w .fired) ∷ []))
-      → z ≡ stepFor (sampleResult (valuesOf s) (p ∷ []))
-  unfolding firedStep
-  sampled-normal none clock watched step =
-      step
-      ∙ ap₂ (λ (n : ℕ) (w : Watched). firedStep (scalarsWith n (w .limiter) (s .emergency)) (w .fired)) clock watched
-      ∙ none-made none
 
   -- with a line before and one behind, where the threshold in force is another
   unfoldable pub ledIf : Bool → Step → Step

@@ -2,7 +2,11 @@
 -- logs.
 use Prim.Native.Nat.{ℕ, _+_}
 use mathlib.Core.List.{List, [], _∷_, map}
+use mathlib.Core.Bool.{_&&_, not}
+use lib.Dec.{eqb}
+use lib.IntN.{ℤ}
 use lib.ListN.{length, getD, set}
+use Rattle.base.specs.Numbers.{held}
 use Rattle.events.specs.Table.{EventRow}
 use Rattle.logs.specs.Layout.{lineClock, lineCode}
 use Rattle.calls.specs.declared.Call.{Call}
@@ -11,10 +15,12 @@ use Rattle.calls.specs.declared.Letter.the-variants.{None}
 use Rattle.history.specs.OnePhase.{asCall}
 use Rattle.machine.specs.Machine.{Change, Result, refusing, making, result}
 use Rattle.limiter.specs.declared.Limiter.{Limiter}
+use Rattle.limiter.specs.Limiter.{sampledPower}
 use Rattle.emergency.specs.declared.Emergency.{Emergency}
 use Rattle.status.specs.declared.StatusStep.{StatusStep}
 use Rattle.status.specs.Step.{inPlaces}
 use Rattle.steps.specs.declared.Scalars.{Scalars}
+use Rattle.steps.specs.declared.QuietSample.{QuietSample}
 use Rattle.steps.specs.declared.Step.{Step}
 use Rattle.steps.specs.Scalars.{valuesOf, scalarsWith, scalarsFrom}
 
@@ -40,6 +46,24 @@ stepFor k =
 abbrev pub stepOf : Scalars → Result → Step
 stepOf s (refusing n) = record { scalars = s; answer = Refused n; letter = None; cleared = 0; log = 0; count = 0; clocks = inPlaces []; codes = inPlaces [] }
 stepOf s (making k) = stepFor k
+
+-- a sample that finds no profile is judged by the normal threshold; where it does not fire, these are the scalars after it, and it owes no line: it is
+-- quiet, which is no word of the documents
+abbrev pub quietSample : Scalars → ℤ → QuietSample
+quietSample s p =
+    let w = sampledPower (s .limiter) (s .limiter .threshold) p in
+    record {
+      scalars =
+          record {
+            control = s .control;
+            limiter = w .limiter;
+            clock = held (s .clock + 1);
+            alarms = s .alarms;
+            errors = s .errors;
+            emergency = s .emergency;
+          };
+      quiet = eqb (s .emergency .state) 0 && not (w .fired);
+    }
 
 -- a step of the status, with a limiter, and a profile and groups
 abbrev pub stepWith : Limiter → Emergency → StatusStep → Step

@@ -8,8 +8,9 @@ ghost use lib.Dec.{leb};
 ghost use Rattle.limiter.specs.Limiter.{watching};
 ghost use Rattle.machine.specs.Machine.{lineNow, moving, decided, restartedBy, afterSample, sampleResult};
 ghost use Rattle.steps.specs.Scalars.{valuesOf};
-ghost use Rattle.steps.specs.Step.{stepFor, ledBy, endedBy};
+ghost use Rattle.steps.specs.Step.{quietSample, stepFor, ledBy, endedBy};
 use crate::LINES;
+use crate::QuietSample;
 use crate::Scalars;
 use crate::Step;
 use calls::Letter;
@@ -103,6 +104,22 @@ impl Scalars {
         self.fired(66, Request::LocalReconnect)
     }
 
+    // Nearly every sample finds no profile and does not fire: then it moves the clock and the run alone,
+    // and leaves no line. Where it is quiet, the scalars are those after it.
+    pub fn quiet_sample(mut self, power: i32) -> QuietSample
+        ensures { λ r. ⌜ r ≡ quietSample self power ⌝ }
+    {
+        let limiter = self.limiter;
+        let watched = limiter.sample(limiter.threshold, power);
+        let next = watched.limiter;
+        self.clock = base::next_held(self.clock);
+        self.limiter = next;
+        QuietSample {
+            scalars: self,
+            quiet: (self.emergency.state == 0) & !watched.fired,
+        }
+    }
+
     // The clock goes on before anything else: a profile starts by it, and a line bears it.
     pub(crate) fn sample(mut self, power: i32) -> Step
         ensures { λ r. ⌜ r ≡ stepFor (sampleResult (valuesOf self) (power ∷ [])) ⌝ }
@@ -110,13 +127,6 @@ impl Scalars {
         self.clock = base::next_held(self.clock);
         let limiter = self.limiter;
         let normal = limiter.threshold;
-        // Most samples find no profile: then nothing can change, and nothing is compared.
-        if self.emergency.state == 0 {
-            let watched = limiter.sample(normal, power);
-            let next = watched.limiter;
-            self.limiter = next;
-            return self.watched(watched.fired);
-        }
         // The profile takes both its steps at once: `during` is what the sample is judged by.
         let before = self.emergency.in_force(normal);
         self.emergency = self.emergency.start(self.clock);

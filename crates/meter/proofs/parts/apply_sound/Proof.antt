@@ -1,36 +1,27 @@
-use Prim.Native.Nat.{_≤_}
-use lib.ListN.{length}
+use mathlib.Core.Path.{_≡_, ap, sym, _∙_}
+use mathlib.Core.Logic.{⊎-elim}
 use borrow.Author.Needs.{needs}
 use Rattle.events.specs.Table.{builtIn}
-use Rattle.logs.specs.Layout.{arrays}
-use Rattle.steps.specs.Step.{resultOf}
+use Rattle.steps.specs.Step.{quietSample}
 use Rattle.meter.specs.State.{withLogs}
-use Rattle.meter.proofs.Tail.{lines-room, part-length, finished}
+use Rattle.meter.proofs.Tail.{quiet-left}
 use Rattle.meter.proofs.parts.apply_sound.Statement.{statement}
 use Rattle.meter.proofs.parts.apply_sound.Tie as tie
 
-room : (c : tie.After-step)
-    → (c .step .result .count ≤ length (c .step .result .clocks)) × (c .step .result .count ≤ length (c .step .result .codes))
-room c = lines-room (c .step .result) (c .before .args .scalars) (resultOf builtIn (c .before .args .scalars) (c .before .args .call)) (c .step .ensures)
-
--- the step, before the arrays are lent to what clears a log
-abbrev stepped : tie.After-clear-log → tie.After-step
-stepped c = c .before .before .before .before
+-- where the ways meet, the call is as it came in
+same-call : (c : tie.At-match-came) → c .match .call ≡ c .before .args .call
+same-call c = ⊎-elim (λ w. w .5 ∙ sym (w .1 .given .1)) (λ w. w .1) (c .match .came)
 
 pub apply-sound-spec : {M : Type 1} → statement M
 apply-sound-spec =
-    tie.close (tie.spec (λ c κs. search needs) (λ c κs. search needs)
-    (λ c. room (stepped (c .before .before .before .before .before)) .0)
-    (λ c. part-length _ _ (room (stepped (c .before .before .before .before .before .before)) .0))
-    (λ c. room (stepped (c .before .before .before .before .before .before)) .1)
-    (λ c. part-length _ _ (room (stepped (c .before .before .before .before .before .before .before)) .1))
-    (λ c κs. search needs)
+    tie.close (tie.spec (λ c. search needs) (λ c κs. search needs)
     (λ c.
-    let lines = c .before in
-    let clear = lines .before .before .before .before .before .before .before .before in
-    let s = stepped clear in
-    let a = s .before .args in
-    finished builtIn (withLogs (a .scalars) (a .counts .now) (a .clocks .now) (a .codes .now)) (a .call) (s .step .result)
-    (arrays (clear .clear-log .last .0) (clear .clear-log .last .1 .0) (clear .clear-log .last .1 .1 .0))
-    (arrays (lines .append-lines .last .0) (lines .append-lines .last .1 .0) (lines .append-lines .last .1 .1 .0))
-    (s .step .ensures) (clear .clear-log .ensures) (lines .append-lines .ensures .0)))
+    let sampled = c .before .before in
+    let call = sampled .before .before in
+    let a = call .before .before .args in
+    let m = withLogs (a .scalars) (a .counts .now) (a .clocks .now) (a .codes .now) in
+    rw (call .call .given .1)
+    (quiet-left builtIn m (call .call .given .0 .0) (sampled .quiet-sample .result)
+    (sampled .quiet-sample .ensures ∙ ap (quietSample (a .scalars)) (search needs)) (c .before .if1 .taken)))
+    (λ c κs. search needs)
+    (λ c. rw (← same-call (c .before .before .before .before)) (c .carry-out .ensures)))

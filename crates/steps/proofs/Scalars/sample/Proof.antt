@@ -7,7 +7,7 @@ use Rattle.base.specs.Tests.{eqZ}
 use Rattle.limiter.specs.Limiter.{sampledPower}
 use Rattle.emergency.specs.Emergency.{inForce}
 use Rattle.steps.proofs.Steps.{same-number}
-use Rattle.steps.proofs.Samples.{sampled-normal, profile-made, sampled-profile}
+use Rattle.steps.proofs.Samples.{profile-made, sampled-profile}
 use Rattle.steps.proofs.Scalars.sample.Statement.{statement}
 use Rattle.steps.proofs.Scalars.sample.Tie as tie
 
@@ -17,15 +17,9 @@ normal c = record { sfits = c .struct-told .given .0 .1 }
 
 pub sample-spec : {M : Type 1} → statement M
 sample-spec {M} =
-    let answers = tie.spec {M = M} (λ c κs. search needs) (λ c κs. search needs) (λ c κs. search needs)
-    (λ c.
-    let made = c .before .before in
-    let told = made .before .before .before in
-    let start = told .before .before .before in
-    sampled-normal (start .args .self) (start .args .power) (made .before .if1 .taken) (told .before .before .next-held .ensures)
-    (made .sample .ensures .0 ∙ ap₂ (sampledPower (start .args .self .limiter)) (same-number _ (normal told)) (same-number _ (start .fits .power)))
-    (c .watched .ensures))
-    (λ c κs. search needs) (λ c κs. search needs) (λ c κs. search needs) (λ c κs. search needs) (λ c κs. search needs) (λ c κs. search needs) (λ c κs. search needs) (λ c κs. search needs) (λ c κs. search needs) (λ c κs. search needs) (λ c κs. search needs) (λ c κs. search needs) (λ c κs. search needs)
+    let answers = tie.spec {M = M} (λ c κs. search needs) (λ c κs. search needs) (λ c κs. search needs) (λ c κs. search needs)
+    (λ c κs. search needs) (λ c κs. search needs) (λ c κs. search needs) (λ c κs. search needs) (λ c κs. search needs)
+    (λ c κs. search needs) (λ c κs. search needs) (λ c κs. search needs) (λ c κs. search needs) (λ c κs. search needs)
     (λ c.
     let fired = c .before .before in
     let restarted = fired .before in
@@ -34,14 +28,18 @@ sample-spec {M} =
     let after = same .before .before in
     let during = after .before .before in
     let before = during .before .before in
-    let told = before .before .before .before in
+    let told = before .before in
     let start = told .before .before .before in
     let threshold = same-number _ (normal told) in
-    sampled-profile (start .args .self) (start .args .power) (told .before .before .next-held .result) (during .before .start .result) (after .before .end .result)
+    sampled-profile (start .args .self) (start .args .power) (told .before .before .next-held .result)
+    (during .before .start .result) (after .before .end .result)
     (before .in-force .result) (during .in-force2 .result) (after .in-force3 .result)
-    (told .before .before .next-held .ensures) (before .in-force .ensures ∙ ap (inForce (start .args .self .emergency)) threshold) (during .before .start .ensures .0)
-    (during .in-force2 .ensures ∙ ap (inForce (during .before .start .result)) threshold) (after .before .end .ensures) (after .in-force3 .ensures ∙ ap (inForce (after .before .end .result)) threshold)
+    (told .before .before .next-held .ensures) (before .in-force .ensures ∙ ap (inForce (start .args .self .emergency)) threshold)
+    (during .before .start .ensures .0)
+    (during .in-force2 .ensures ∙ ap (inForce (during .before .start .result)) threshold) (after .before .end .ensures)
+    (after .in-force3 .ensures ∙ ap (inForce (after .before .end .result)) threshold)
     (profile-made (start .args .self) (start .args .power) _ _ (before .in-force .result) (during .in-force2 .result) (after .in-force3 .result)
     (same .before .equal .ensures ∙ search needs) (same .equal2 .ensures ∙ search needs) (sampled .before .restarted .ensures)
-    (sampled .sample2 .ensures .0 ∙ search needs) (restarted .restarted2 .ensures) (fired .watched2 .ensures) (c .before .led-by-change .ensures) (c .ended-by-change .ensures)))
+    (sampled .sample .ensures .0 ∙ search needs) (restarted .restarted2 .ensures) (fired .watched .ensures)
+    (c .before .led-by-change .ensures) (c .ended-by-change .ensures)))
     in tie.close answers
