@@ -44,7 +44,7 @@ extern "C" {
  * page bears no version: one that is laid out otherwise is refused by its
  * length or its pairs.
  */
-#define PILLAR_VERSION_MAJOR 3
+#define PILLAR_VERSION_MAJOR 4
 #define PILLAR_VERSION_MINOR 0
 #define PILLAR_VERSION_PATCH 0
 #define PILLAR_VERSION \
@@ -77,9 +77,10 @@ extern "C" {
 /* Clock: an area of one field. */
 #define PILLAR_LENGTH_CLOCK 4
 
-/* Alarms, errors: a register and its filter each. */
+/* Alarms, errors: a register and its filter each; behind those of the alarms, how many stand. */
 #define PILLAR_LENGTH_ALARM_REGISTER 4
 #define PILLAR_LENGTH_ALARM_FILTER 4
+#define PILLAR_LENGTH_ALARM_COUNT 1
 #define PILLAR_LENGTH_ERROR_REGISTER 4
 #define PILLAR_LENGTH_ERROR_FILTER 4
 
@@ -106,7 +107,8 @@ extern "C" {
 #define PILLAR_LENGTH_LIMITER \
     (PILLAR_LENGTH_THRESHOLD + PILLAR_LENGTH_OVER_DURATION + PILLAR_LENGTH_UNDER_DURATION \
      + PILLAR_LENGTH_EXCEEDED + PILLAR_LENGTH_RUN)
-#define PILLAR_LENGTH_ALARMS (PILLAR_LENGTH_ALARM_REGISTER + PILLAR_LENGTH_ALARM_FILTER)
+#define PILLAR_LENGTH_ALARMS \
+    (PILLAR_LENGTH_ALARM_REGISTER + PILLAR_LENGTH_ALARM_FILTER + PILLAR_LENGTH_ALARM_COUNT)
 #define PILLAR_LENGTH_ERRORS (PILLAR_LENGTH_ERROR_REGISTER + PILLAR_LENGTH_ERROR_FILTER)
 #define PILLAR_LENGTH_LOG (PILLAR_LENGTH_LOG_COUNT + PILLAR_LINES_PER_LOG * PILLAR_LINE_SIZE)
 #define PILLAR_LENGTH_EMERGENCY \
@@ -132,6 +134,7 @@ extern "C" {
 #define PILLAR_OFFSET_ALARMS (PILLAR_OFFSET_CLOCK + PILLAR_LENGTH_CLOCK)
 #define PILLAR_OFFSET_ALARM_REGISTER PILLAR_OFFSET_ALARMS
 #define PILLAR_OFFSET_ALARM_FILTER (PILLAR_OFFSET_ALARM_REGISTER + PILLAR_LENGTH_ALARM_REGISTER)
+#define PILLAR_OFFSET_ALARM_COUNT (PILLAR_OFFSET_ALARM_FILTER + PILLAR_LENGTH_ALARM_FILTER)
 
 #define PILLAR_OFFSET_ERRORS (PILLAR_OFFSET_ALARMS + PILLAR_LENGTH_ALARMS)
 #define PILLAR_OFFSET_ERROR_REGISTER PILLAR_OFFSET_ERRORS
@@ -605,6 +608,16 @@ static inline uint32_t pillar_get_alarm_register(const uint8_t *page)
 static inline uint32_t pillar_get_alarm_filter(const uint8_t *page)
 {
     return pillar_get_number(page, PILLAR_OFFSET_ALARM_FILTER);
+}
+
+/*
+ * How many alarms stand, 0 to 32: the bits that are one in the alarm register,
+ * whatever the filter. A display reads it with one load, the byte at
+ * PILLAR_OFFSET_ALARM_COUNT, and counts no bits.
+ */
+static inline uint8_t pillar_get_alarm_count(const uint8_t *page)
+{
+    return page[PILLAR_OFFSET_ALARM_COUNT];
 }
 
 /* PILLAR_ERROR_.. bits. */

@@ -137,6 +137,7 @@ static void fields(void)
     FIELD(CLOCK, 0x090a0b0c, pillar_get_clock(page));
     FIELD(ALARM_REGISTER, 0, pillar_get_alarm_register(page));
     FIELD(ALARM_FILTER, 0x11121314, pillar_get_alarm_filter(page));
+    FIELD(ALARM_COUNT, 0, pillar_get_alarm_count(page));
     FIELD(ERROR_REGISTER, 0, pillar_get_error_register(page));
     FIELD(ERROR_FILTER, 0x21222324, pillar_get_error_filter(page));
 
@@ -165,12 +166,14 @@ static void fields(void)
     fresh(PILLAR_CONTROL_MODE_1);
     put(PILLAR_OFFSET_OPENINGS, 0x00ffffff);
     put(PILLAR_OFFSET_ALARM_REGISTER, 0xffffffff);
+    page[PILLAR_OFFSET_ALARM_COUNT] = 32;
     put(PILLAR_OFFSET_ERROR_REGISTER, 0xffffffff);
     ACCEPTED(pillar_remote_disconnect(PAGE, &letter));
     ACCEPTED(pillar_clear_alarms(PAGE, 0x01020304));
     ACCEPTED(pillar_clear_errors(PAGE, 0x11121314));
     FIELD(OPENINGS, 0x01000000, pillar_get_openings(page));
     FIELD(ALARM_REGISTER, 0xfefdfcfb, pillar_get_alarm_register(page));
+    FIELD(ALARM_COUNT, 27, pillar_get_alarm_count(page));
     FIELD(ERROR_REGISTER, 0xeeedeceb, pillar_get_error_register(page));
 }
 
@@ -299,8 +302,52 @@ static void reports(void)
             SAME(event->log == log, pillar_get_log_count(page, log));
         SAME(at, latest(event->log));
         SAME(event->alarms, pillar_get_alarm_register(page));
+        SAME(event->alarms != 0, pillar_get_alarm_count(page));
         SAME(event->errors, pillar_get_error_register(page));
     }
+}
+
+/* So many alarms stand, by the register and by the count; with another count the page is refused. */
+static void alarms_stand(int line, uint32_t number)
+{
+    uint32_t standing = 0;
+    for (uint32_t alarms = pillar_get_alarm_register(page); alarms != 0; alarms >>= 1)
+        standing += alarms & 1;
+    same(line, "alarms standing", standing, number);
+    for (uint32_t count = 0; count < 256; count++) {
+        page[PILLAR_OFFSET_ALARM_COUNT] = (uint8_t)count;
+        same(line, "a count of alarms", count == number ? PILLAR_ACCEPTED : PILLAR_REFUSED_PAGE_UNSOUND, pillar_check(PAGE));
+    }
+    page[PILLAR_OFFSET_ALARM_COUNT] = (uint8_t)number;
+}
+
+#define ALARMS_STAND(number) FIELD(ALARM_COUNT, number, pillar_get_alarm_count(page)), alarms_stand(__LINE__, number)
+
+/* Each alarm is counted once while it stands, hidden by the filter or not. */
+static void alarm_count(void)
+{
+    const uint32_t all = UINT32_MAX;
+    fresh(0);
+    ALARMS_STAND(0);
+    ACCEPTED(pillar_report_event(PAGE, PILLAR_EVENT_RAM_ERROR));
+    ACCEPTED(pillar_report_event(PAGE, PILLAR_EVENT_RAM_ERROR));
+    ALARMS_STAND(1);
+    ACCEPTED(pillar_report_event(PAGE, PILLAR_EVENT_TERMINAL_COVER_REMOVED));
+    ACCEPTED(pillar_report_event(PAGE, PILLAR_EVENT_METER_COVER_REMOVED));
+    ALARMS_STAND(2);
+    ACCEPTED(pillar_set_alarm_filter(PAGE, all));
+    ALARMS_STAND(2);
+    ACCEPTED(pillar_report_event(PAGE, PILLAR_EVENT_WATCHDOG_ERROR));
+    ALARMS_STAND(2);
+    ACCEPTED(pillar_set_alarm_filter(PAGE, 0));
+    ACCEPTED(pillar_report_event(PAGE, PILLAR_EVENT_WATCHDOG_ERROR));
+    ALARMS_STAND(3);
+    ACCEPTED(pillar_clear_errors(PAGE, all));
+    ALARMS_STAND(3);
+    ACCEPTED(pillar_clear_alarms(PAGE, ~(PILLAR_ALARM_RAM_ERROR | PILLAR_ALARM_WATCHDOG_ERROR)));
+    ALARMS_STAND(2);
+    ACCEPTED(pillar_clear_alarms(PAGE, all));
+    ALARMS_STAND(0);
 }
 
 struct logged {
@@ -755,6 +802,7 @@ int main(void)
     fields();
     logs();
     reports();
+    alarm_count();
     codes();
     lines();
     control_modes();

@@ -1,7 +1,7 @@
 /*
  * Document 01's worked example through the C interface, call by call and as
  * one list, the letters of its moves, what the page then holds, an emergency
- * profile, and wrong input.
+ * profile, how many alarms stand, and wrong input.
  *
  *   rt staticlib pillar
  *   gcc -std=c99 -Wall -Wextra -pedantic -Iinclude -o target/pillar_demo examples/c/pillar_demo.c target/staticlib/libpillar.a
@@ -140,6 +140,25 @@ static int governed(void)
     return right && pillar_get_emergency_state(page) == PILLAR_EMERGENCY_STATE_NONE;
 }
 
+/*
+ * Whether a display reads off the page how many alarms stand (document 02, A6): a
+ * cover that is removed twice is one alarm, and a filter leaves what stands.
+ */
+static int displayed(void)
+{
+    uint8_t page[PILLAR_PAGE_SIZE] = {0};
+    int right = pillar_fresh(page, sizeof page, PILLAR_CONTROL_MODE_5, THRESHOLD, OVER_DURATION, UNDER_DURATION, CLOCK) == PILLAR_ACCEPTED;
+    right &= pillar_report_event(page, sizeof page, PILLAR_EVENT_REPLACE_BATTERY) == PILLAR_ACCEPTED;
+    right &= pillar_report_event(page, sizeof page, PILLAR_EVENT_METER_COVER_REMOVED) == PILLAR_ACCEPTED;
+    right &= pillar_report_event(page, sizeof page, PILLAR_EVENT_METER_COVER_REMOVED) == PILLAR_ACCEPTED;
+    right &= pillar_set_alarm_filter(page, sizeof page, PILLAR_ALARM_FRAUD_ATTEMPT) == PILLAR_ACCEPTED;
+    printf("alarms standing: %u\n", (unsigned)pillar_get_alarm_count(page));
+    right &= pillar_get_alarm_count(page) == 2;
+    right &= pillar_clear_alarms(page, sizeof page, PILLAR_ALARM_REPLACE_BATTERY) == PILLAR_ACCEPTED;
+    printf("alarms standing: %u\n", (unsigned)pillar_get_alarm_count(page));
+    return right && pillar_get_alarm_count(page) == 1;
+}
+
 /* Whether a refusal came with this number and left the page as it was. */
 static int refused(const char *what, uint32_t answer, uint32_t expected, const uint8_t *page, const uint8_t *before)
 {
@@ -163,6 +182,7 @@ int main(void)
     right &= replayed(page);
     right &= held(page);
     right &= governed();
+    right &= displayed();
 
     uint8_t before[PILLAR_PAGE_SIZE];
     uint8_t letter;
@@ -179,7 +199,7 @@ int main(void)
     right &= refused("list without a byte", pillar_replay(before, 0, page, sizeof page), PILLAR_REFUSED_LIST_EMPTY, page, before);
     right &= refused("list that does not begin with fresh", pillar_replay(not_fresh, sizeof not_fresh, page, sizeof page), PILLAR_REFUSED_LIST_BAD, page, before);
 
-    /* A pair of the directory, then the control mode. */
+    /* A pair of the directory, then the control mode, then the count of alarms. */
     page[0] ^= 1;
     memcpy(before, page, sizeof page);
     right &= refused("call on a page with another pair", pillar_remote_disconnect(page, sizeof page, &letter), PILLAR_REFUSED_PAGE_PAIRS, page, before);
@@ -187,5 +207,9 @@ int main(void)
     page[PILLAR_OFFSET_CONTROL_MODE] = 7;
     memcpy(before, page, sizeof page);
     right &= refused("check of a page with control mode 7", pillar_check(page, sizeof page), PILLAR_REFUSED_PAGE_UNSOUND, page, before);
+    page[PILLAR_OFFSET_CONTROL_MODE] = PILLAR_CONTROL_MODE_NONE;
+    page[PILLAR_OFFSET_ALARM_COUNT] = 1;
+    memcpy(before, page, sizeof page);
+    right &= refused("check of a page that counts an alarm that does not stand", pillar_check(page, sizeof page), PILLAR_REFUSED_PAGE_UNSOUND, page, before);
     return right ? 0 : 1;
 }

@@ -44,10 +44,22 @@ pub enum Case {
     WideId,
     /// "16, ..., after 15" (02, A3).
     RefusedTwice,
+    /// "How many alarms stand" (02, A6): an event with an alarm bit that does not
+    /// stand, is hidden, or stands already.
+    Raises,
+    RaisesHidden,
+    RaisesStanding,
+    /// A filter that hides an alarm that stands, and leaves it counted.
+    HidesStanding,
+    /// A clear of alarms after which none of those that stood is left, or some
+    /// are; or one whose mask meets none of them.
+    ClearsAll,
+    ClearsSome,
+    ClearsOthers,
 }
 
 impl Case {
-    pub const ALL: [Case; 21] = [
+    pub const ALL: [Case; 28] = [
         Case::ClosesByCall,
         Case::ClosesByScript,
         Case::StaysReady,
@@ -69,6 +81,13 @@ impl Case {
         Case::ClockAtActivation,
         Case::WideId,
         Case::RefusedTwice,
+        Case::Raises,
+        Case::RaisesHidden,
+        Case::RaisesStanding,
+        Case::HidesStanding,
+        Case::ClearsAll,
+        Case::ClearsSome,
+        Case::ClearsOthers,
     ];
 
     /// The case of this call on the meter of this page, if it is one.
@@ -81,6 +100,9 @@ impl Case {
             (5, _) => of_manual_reconnect(page),
             (7, _) if active => Some(Case::LimiterUnderProfile),
             (8, clock) => of_clock(clock, page),
+            (9, code) => of_event(code, page),
+            (10, filter) => of_alarm_filter(filter, page),
+            (12, mask) => of_clear_alarms(mask, page),
             (15, 2) => of_remote_reconnect(page, Case::ClosesByScript),
             (16, _) if active => Some(Case::GroupsUnderProfile),
             (17, _) => of_profile(call.numbers, page),
@@ -111,6 +133,13 @@ impl Case {
             Case::ClockAtActivation => "clock set to activation or later, profile waiting",
             Case::WideId => "id above 16 bits, its low half in the group",
             Case::RefusedTwice => "id not in the group and the profile out of range",
+            Case::Raises => "event with an alarm that does not stand",
+            Case::RaisesHidden => "event with an alarm that the filter hides",
+            Case::RaisesStanding => "event with an alarm that stands",
+            Case::HidesStanding => "filter over an alarm that stands",
+            Case::ClearsAll => "clear of alarms, none left",
+            Case::ClearsSome => "clear of alarms, some left",
+            Case::ClearsOthers => "clear of alarms, of those that do not stand",
         }
     }
 }
@@ -177,6 +206,45 @@ fn of_clock(clock: u32, page: &[u8; PAGE]) -> Option<Case> {
         ACTIVE if clock < field::get(page, field::CLOCK) => Some(Case::ClockBackUnderProfile),
         WAITING if clock >= field::get(page, field::ACTIVATION) => Some(Case::ClockAtActivation),
         _ => None,
+    }
+}
+
+/// Of the codes with an alarm bit.
+fn of_event(code: u32, page: &[u8; PAGE]) -> Option<Case> {
+    let bit = match code {
+        6 => 0,
+        7 => 1,
+        12 => 8,
+        13 => 9,
+        14 => 10,
+        15 => 12,
+        16 => 11,
+        40 | 42 | 44 => 13,
+        _ => return None,
+    };
+    let is_one = |register| field::get(page, register) >> bit & 1 == 1;
+    Some(if is_one(field::ALARMS) {
+        Case::RaisesStanding
+    } else if is_one(field::ALARM_FILTER) {
+        Case::RaisesHidden
+    } else {
+        Case::Raises
+    })
+}
+
+fn of_alarm_filter(filter: u32, page: &[u8; PAGE]) -> Option<Case> {
+    let hidden = field::get(page, field::ALARMS) & filter;
+    (hidden != 0).then_some(Case::HidesStanding)
+}
+
+fn of_clear_alarms(mask: u32, page: &[u8; PAGE]) -> Option<Case> {
+    let standing = field::get(page, field::ALARMS);
+    match (standing & mask, standing & !mask) {
+        (0, 0) => None,
+        (_, 0) => Some(Case::ClearsAll),
+        (0, _) if mask == 0 => None,
+        (0, _) => Some(Case::ClearsOthers),
+        _ => Some(Case::ClearsSome),
     }
 }
 
@@ -322,6 +390,33 @@ mod tests {
             assert_eq!(met(8, 101, &page), None);
             assert_eq!(met(8, 102, &page), waiting(Case::ClockAtActivation));
         }
+    }
+
+    #[test]
+    fn alarms_are_told_by_those_that_stand() {
+        let mut page = page(5, CONNECTED);
+        assert_eq!(met(12, u32::MAX, &page), None);
+        assert_eq!(met(10, u32::MAX, &page), None);
+        field::put_alarms(&mut page, 0x2001);
+        field::put(&mut page, field::ALARM_FILTER, 0x0003);
+        assert_eq!(page[field::ALARM_COUNT], 2);
+        for (code, case) in [
+            (6, Some(Case::RaisesStanding)),
+            (7, Some(Case::RaisesHidden)),
+            (12, Some(Case::Raises)),
+            (16, Some(Case::Raises)),
+            (44, Some(Case::RaisesStanding)),
+            (41, None),
+            (262, None),
+        ] {
+            assert_eq!(met(9, code, &page), case, "code {code}");
+        }
+        assert_eq!(met(10, 0x2000, &page), Some(Case::HidesStanding));
+        assert_eq!(met(10, 0x1ffe, &page), None);
+        assert_eq!(met(12, 0x3f03, &page), Some(Case::ClearsAll));
+        assert_eq!(met(12, 0x2000, &page), Some(Case::ClearsSome));
+        assert_eq!(met(12, 0x1000, &page), Some(Case::ClearsOthers));
+        assert_eq!(met(12, 0, &page), None);
     }
 
     #[test]

@@ -1,8 +1,8 @@
 //! Damaged pages: what a worn memory or a wrong writer would hand over.
 
 use crate::field::{
-    self, COUNT, DURATION, EXCEEDED, GROUPS, IDS, LEFT, LINES, LOGS, MODE, OVER, PROFILE_ID,
-    PROFILE_THRESHOLD, RUN, STATE, SWITCH, THRESHOLD, UNDER,
+    self, ALARM_COUNT, ALARM_FILTER, ALARMS, COUNT, DURATION, ERRORS, EXCEEDED, GROUPS, IDS, LEFT,
+    LINES, LOGS, MODE, OVER, PROFILE_ID, PROFILE_THRESHOLD, RUN, STATE, SWITCH, THRESHOLD, UNDER,
 };
 use crate::random::Random;
 use pillar::PAGE;
@@ -23,7 +23,7 @@ pub fn damaged(random: &mut Random, page: &[u8; PAGE]) -> Vec<u8> {
 
 /// Changes bytes of a whole page.
 fn damage(random: &mut Random, page: &mut [u8]) {
-    match random.below(14) {
+    match random.below(15) {
         0 => page[random.below(PAGE)] = random.byte(),
         1 => page[random.below(PAGE)] ^= 1 << random.below(8),
         2 => page[random.below(MODE)] ^= 1 << random.below(8),
@@ -37,6 +37,7 @@ fn damage(random: &mut Random, page: &mut [u8]) {
         10 => damage_profile(random, page),
         11 => damage_groups(random, page),
         12 => page[PROFILE_ID + random.below(PAGE - PROFILE_ID)] = random.byte(),
+        13 => damage_alarms(random, page),
         _ => damage_limiter(random, page),
     }
 }
@@ -77,6 +78,23 @@ fn damage_past_count(random: &mut Random, page: &mut [u8]) {
     }
     let line = field::line(log, count + random.below(LINES - count));
     page[line + random.below(5)] = 1 << random.below(8);
+}
+
+/// A bit of the register, or the count: one more or fewer, or that of another
+/// number that stands beside it.
+fn damage_alarms(random: &mut Random, page: &mut [u8]) {
+    if random.one_in(3) {
+        page[ALARMS + random.below(4)] ^= 1 << random.below(8);
+        return;
+    }
+    let count = page[ALARM_COUNT];
+    let near = [count.wrapping_add(1), count.wrapping_sub(1)];
+    let alarms = field::get(page, ALARMS);
+    let filter = field::get(page, ALARM_FILTER);
+    let others = [filter, alarms & !filter, field::get(page, ERRORS)];
+    let others = others.map(|number| number.count_ones() as u8);
+    let edges = [0, 32, 33, 128, 255];
+    page[ALARM_COUNT] = random.pick(&[&near[..], &others, &edges].concat());
 }
 
 fn damage_limiter(random: &mut Random, page: &mut [u8]) {

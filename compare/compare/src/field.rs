@@ -10,17 +10,20 @@ pub const EXCEEDED: usize = 54;
 pub const RUN: usize = 55;
 pub const CLOCK: usize = 59;
 pub const ALARMS: usize = 63;
-pub const ERRORS: usize = 71;
-pub const LOGS: [usize; 3] = [79, 240, 401];
+pub const ALARM_FILTER: usize = 67;
+pub const ALARM_COUNT: usize = 71;
+pub const ERRORS: usize = 72;
+pub const ERROR_FILTER: usize = 76;
+pub const LOGS: [usize; 3] = [80, 241, 402];
 pub const LINES: usize = 32;
-pub const PROFILE_ID: usize = 562;
-pub const PROFILE_THRESHOLD: usize = 564;
-pub const ACTIVATION: usize = 568;
-pub const DURATION: usize = 572;
-pub const LEFT: usize = 576;
-pub const STATE: usize = 580;
-pub const COUNT: usize = 581;
-pub const IDS: usize = 582;
+pub const PROFILE_ID: usize = 563;
+pub const PROFILE_THRESHOLD: usize = 565;
+pub const ACTIVATION: usize = 569;
+pub const DURATION: usize = 573;
+pub const LEFT: usize = 577;
+pub const STATE: usize = 581;
+pub const COUNT: usize = 582;
+pub const IDS: usize = 583;
 pub const GROUPS: usize = 8;
 
 /// The switch at Connected and at Ready for reconnection.
@@ -31,7 +34,7 @@ pub const READY: u8 = 2;
 pub const WAITING: u8 = 1;
 pub const ACTIVE: u8 = 2;
 
-const FIELDS: [(usize, &str); 22] = [
+const FIELDS: [(usize, &str); 23] = [
     (0, "pairs"),
     (MODE, "mode"),
     (SWITCH, "switch"),
@@ -43,9 +46,10 @@ const FIELDS: [(usize, &str); 22] = [
     (RUN, "Run"),
     (CLOCK, "clock"),
     (ALARMS, "alarms"),
-    (67, "alarm filter"),
+    (ALARM_FILTER, "alarm filter"),
+    (ALARM_COUNT, "alarms standing"),
     (ERRORS, "errors"),
-    (75, "error filter"),
+    (ERROR_FILTER, "error filter"),
     (PROFILE_ID, "profile id"),
     (PROFILE_THRESHOLD, "emergency threshold"),
     (ACTIVATION, "activation"),
@@ -99,6 +103,12 @@ pub fn ids(page: &[u8]) -> Vec<u16> {
     held.map(|id| u16::from_be_bytes(*id)).collect()
 }
 
+/// Sets the alarm register and how many of its bits stand.
+pub fn put_alarms(page: &mut [u8], alarms: u32) {
+    put(page, ALARMS, alarms);
+    page[ALARM_COUNT] = alarms.count_ones() as u8;
+}
+
 pub fn get(page: &[u8], field: usize) -> u32 {
     let bytes = page[field..].first_chunk().expect("a field of the page");
     u32::from_be_bytes(*bytes)
@@ -120,18 +130,22 @@ mod tests {
         assert_eq!(name(41), "openings");
         assert_eq!(name(54), "Exceeded");
         assert_eq!(name(58), "Run");
-        assert_eq!(name(78), "error filter");
-        assert_eq!(name(79), "log 1, count");
-        assert_eq!(name(80), "log 1, line 1, clock");
-        assert_eq!(name(244), "log 2, line 1, clock");
-        assert_eq!(name(245), "log 2, line 1, code");
-        assert_eq!(name(561), "log 3, line 32, code");
-        assert_eq!(name(562), "profile id");
-        assert_eq!(name(567), "emergency threshold");
-        assert_eq!(name(579), "samples left");
-        assert_eq!(name(580), "profile state");
-        assert_eq!(name(581), "group count");
-        assert_eq!(name(597), "group ids");
-        assert_eq!(name(598), "past the page");
+        assert_eq!(name(66), "alarms");
+        assert_eq!(name(70), "alarm filter");
+        assert_eq!(name(71), "alarms standing");
+        assert_eq!(name(72), "errors");
+        assert_eq!(name(79), "error filter");
+        assert_eq!(name(80), "log 1, count");
+        assert_eq!(name(81), "log 1, line 1, clock");
+        assert_eq!(name(245), "log 2, line 1, clock");
+        assert_eq!(name(246), "log 2, line 1, code");
+        assert_eq!(name(562), "log 3, line 32, code");
+        assert_eq!(name(563), "profile id");
+        assert_eq!(name(568), "emergency threshold");
+        assert_eq!(name(580), "samples left");
+        assert_eq!(name(581), "profile state");
+        assert_eq!(name(582), "group count");
+        assert_eq!(name(598), "group ids");
+        assert_eq!(name(599), "past the page");
     }
 }

@@ -237,10 +237,7 @@ impl Generator {
                 field::put(&mut page, field::OPENINGS, LAST - left);
             }
             Profile::FullLogs => patch_lines(random, &mut page),
-            _ => {
-                field::put(&mut page, field::ALARMS, random.number());
-                field::put(&mut page, field::ERRORS, random.number());
-            }
+            _ => patch_registers(random, &mut page),
         }
         page
     }
@@ -249,6 +246,7 @@ impl Generator {
     pub fn patches(&self) -> usize {
         match self.profile {
             Profile::Runs | Profile::Requests | Profile::Key | Profile::Emergency => 20,
+            Profile::Registers => 20,
             Profile::LateClock | Profile::LateOpenings => 12,
             _ => 400,
         }
@@ -278,7 +276,7 @@ fn unknown_kind(random: &mut Random) -> Call {
 
 /// A call that may be a [`Case`], if it is one on the meter of this page.
 fn aimed(random: &mut Random, page: &[u8; PAGE]) -> Option<Call> {
-    let kind = random.pick(&[1, 3, 5, 7, 8, 15, 16, 17]);
+    let kind = random.pick(&[1, 3, 5, 7, 8, 9, 10, 12, 15, 16, 17]);
     let mut numbers = [0; 5].map(|_| random.number());
     match kind {
         1 => {
@@ -287,6 +285,8 @@ fn aimed(random: &mut Random, page: &[u8; PAGE]) -> Option<Call> {
         }
         7 => numbers[..3].copy_from_slice(&[random.pick(&thresholds(page)), 2, 2]),
         8 => numbers[0] = activation(random, page),
+        9 => numbers[0] = random.pick(&CODES),
+        10 | 12 => numbers[0] = mask(random, Reach::Usual),
         15 => numbers[0] = 2,
         16 => numbers = groups(random, Reach::Usual),
         17 => numbers = emergency(random, Reach::Usual, page),
@@ -391,6 +391,20 @@ fn patch_profile(random: &mut Random, page: &mut [u8; PAGE]) {
     page[field::IDS..][..2].copy_from_slice(&id.to_be_bytes());
 }
 
+/// Registers that events alone would not leave, up to every bit; the count of
+/// alarms is mostly theirs.
+fn patch_registers(random: &mut Random, page: &mut [u8; PAGE]) {
+    let (any, more) = (random.number(), random.number());
+    let alarms = random.pick(&[any, any & EVENT_BITS, any | more, 0, LAST]);
+    field::put_alarms(page, alarms);
+    if random.one_in(8) {
+        page[field::ALARM_COUNT] = random.below(34) as u8;
+    }
+    let filter = mask(random, Reach::Usual);
+    field::put(page, field::ALARM_FILTER, filter);
+    field::put(page, field::ERRORS, random.number());
+}
+
 fn patch_switch(random: &mut Random, page: &mut [u8; PAGE]) {
     page[field::MODE] = random.below(7) as u8;
     page[field::SWITCH] = random.below(3) as u8;
@@ -462,6 +476,7 @@ mod tests {
             patch_switch(&mut random, &mut page);
             patch_profile(&mut random, &mut page);
             patch_run(&mut random, &mut page);
+            patch_registers(&mut random, &mut page);
             if let Some(call) = aimed(&mut random, &page) {
                 met.extend(Case::of(call, &page));
             }

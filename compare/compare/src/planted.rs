@@ -6,7 +6,7 @@ use plain::fault;
 
 type Run = fn(&Plan) -> Result<Counts, Box<Found>>;
 
-pub const PLANTED: [(&str, Run); 58] = [
+pub const PLANTED: [(&str, Run); 68] = [
     (
         "trips at power equal to threshold",
         run::<{ fault::TRIPS_AT_THRESHOLD }>,
@@ -232,5 +232,45 @@ pub const PLANTED: [(&str, Run); 58] = [
     (
         "demands that a profile's id stays in the group",
         run::<{ fault::DEMANDS_MEMBERSHIP }>,
+    ),
+    (
+        "keeps how many bits of the alarm filter are one",
+        run::<{ fault::COUNTS_FILTER }>,
+    ),
+    (
+        "counts the alarms that stand and are not hidden",
+        run::<{ fault::COUNTS_UNHIDDEN }>,
+    ),
+    (
+        "counts an alarm again that is raised again",
+        run::<{ fault::COUNTS_RAISED_AGAIN }>,
+    ),
+    (
+        "counts an alarm that is hidden",
+        run::<{ fault::COUNTS_HIDDEN }>,
+    ),
+    (
+        "raises an alarm without counting it",
+        run::<{ fault::RAISES_WITHOUT_COUNT }>,
+    ),
+    (
+        "clears alarms and leaves their count",
+        run::<{ fault::CLEARS_WITHOUT_COUNT }>,
+    ),
+    (
+        "sets the count of alarms 0 at every clear",
+        run::<{ fault::CLEARS_COUNT }>,
+    ),
+    (
+        "takes every one of a clear's mask off the count of alarms",
+        run::<{ fault::COUNTS_CLEARED_MASK }>,
+    ),
+    (
+        "reads any count of alarms",
+        run::<{ fault::READS_ANY_ALARM_COUNT }>,
+    ),
+    (
+        "reads any count of alarms from 0 to 32",
+        run::<{ fault::READS_ANY_ALARM_COUNT_TO_32 }>,
     ),
 ];

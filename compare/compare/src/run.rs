@@ -6,6 +6,7 @@ use crate::call::{Call, fresh_record};
 use crate::counts::Counts;
 use crate::damage::damaged;
 use crate::difference::Difference;
+use crate::field;
 use crate::generate::{Generator, Profile};
 use crate::random::Random;
 use crate::sides::{Compared, Sides};
@@ -124,14 +125,15 @@ fn spoil(random: &mut Random, list: &mut Vec<u8>) {
     }
 }
 
-/// Every value at every byte of three pages, every length, and the longest
-/// durations run to their end.
+/// Every value at every byte of three pages, every length, counts of alarms, and
+/// the longest durations run to their end.
 fn sweep<const FAULT: u8>(sides: &mut Sides<FAULT>, random: &mut Random) -> Compared<()> {
     for (rounds, activation) in [(0, None), (4, Some(u32::MAX)), (40, Some(0))] {
         busy_meter(sides, rounds, activation)?;
         sweep_bytes(sides)?;
         sweep_lengths(sides, random)?;
     }
+    sweep_alarms(sides)?;
     longest_runs(sides)?;
     longest_profile(sides)
 }
@@ -197,6 +199,23 @@ fn sweep_lengths<const FAULT: u8>(sides: &mut Sides<FAULT>, random: &mut Random)
         bytes.resize(length, random.byte());
         sides.inspect(&bytes, call(1, 0))?;
         sides.inspect(&bytes, call(18, 0))?;
+    }
+    Ok(())
+}
+
+/// Each count beside registers of 0 to 32 bits, from the lowest up and from the
+/// highest down, and of one bit at each place.
+fn sweep_alarms<const FAULT: u8>(sides: &mut Sides<FAULT>) -> Compared<()> {
+    let page = sides.page;
+    let lowest = (0..=32).map(|bits| ((1_u64 << bits) - 1) as u32);
+    let registers = lowest.flat_map(|low| [low, low.reverse_bits()]);
+    for alarms in registers.chain((0..32).map(|bit| 1 << bit)) {
+        let mut damaged = page;
+        field::put_alarms(&mut damaged, alarms);
+        for count in 0..=255 {
+            damaged[field::ALARM_COUNT] = count;
+            sides.inspect(&damaged, call(12, 0x1111_1111))?;
+        }
     }
     Ok(())
 }

@@ -121,3 +121,23 @@ pub const READS_ANY_SAMPLES_LEFT: u8 = 56;
 pub const READS_FIELDS_WITHOUT_PROFILE: u8 = 57;
 /// A record is sound only if the profile's id is in the group.
 pub const DEMANDS_MEMBERSHIP: u8 = 58;
+/// How many bits of the alarm filter are one is kept, not of the register.
+pub const COUNTS_FILTER: u8 = 59;
+/// Only the alarms that stand and that the filter does not hide are counted.
+pub const COUNTS_UNHIDDEN: u8 = 60;
+/// An alarm bit that stands is counted again when it is raised again.
+pub const COUNTS_RAISED_AGAIN: u8 = 61;
+/// An alarm bit that the filter hides is counted, though it is not set.
+pub const COUNTS_HIDDEN: u8 = 62;
+/// An event raises its alarm bit and leaves the count.
+pub const RAISES_WITHOUT_COUNT: u8 = 63;
+/// A clear of alarms leaves the count.
+pub const CLEARS_WITHOUT_COUNT: u8 = 64;
+/// A clear of alarms sets the count 0, whatever stays.
+pub const CLEARS_COUNT: u8 = 65;
+/// A clear of alarms takes off every one of its mask, standing or not.
+pub const COUNTS_CLEARED_MASK: u8 = 66;
+/// The reader takes any count of alarms.
+pub const READS_ANY_ALARM_COUNT: u8 = 67;
+/// The reader takes any count of alarms from 0 to 32.
+pub const READS_ANY_ALARM_COUNT_TO_32: u8 = 68;

@@ -1,13 +1,13 @@
 //! The switching core of the pillar meter, written from document 01 and requests
-//! A1, A2, A3 and A5 of document 02, but for one thing: they give the faults of
-//! a list no numbers, so those of [`Machine::replay`], 100 to 102, and the order
-//! of its refusals are the C interface's (`pillar.h`).
+//! A1, A2, A3, A5 and A6 of document 02, but for one thing: they give the faults
+//! of a list no numbers, so those of [`Machine::replay`], 100 to 102, and the
+//! order of its refusals are the C interface's (`pillar.h`).
 //!
 //! [`Meter`] is the record with its seventeen calls. Every call works in place
 //! and answers the [`Letter`] of the move that it made, or none, or the number
 //! of its refusal; a refused call leaves the record as it was. [`Vectorised`] is
 //! the same with a test of the logs that is tuned for speed. The quotations in
-//! the comments are document 01's, but for those marked (02, A1) to (02, A5).
+//! the comments are document 01's, but for those marked (02, A1) to (02, A6).
 
 mod emergency;
 mod events;

@@ -146,6 +146,7 @@ fn page_has_the_stated_layout() {
     meter.openings = 0x0102_0304;
     meter.alarms = 0x1112_1314;
     meter.alarm_filter = 0x2122_2324;
+    meter.alarm_count = 9;
     meter.errors = 0x3132_3334;
     meter.error_filter = 0x4142_4344;
     meter.mode = 6;
@@ -166,31 +167,31 @@ fn page_has_the_stated_layout() {
     let page = page_of(&meter);
 
     let pairs = [
-        0, 36, 0, 6, 0, 42, 0, 17, 0, 59, 0, 4, 0, 63, 0, 8, 0, 71, 0, 8, 0, 79, 0, 161, 0, 240, 0,
-        161, 1, 145, 0, 161, 2, 50, 0, 36,
+        0, 36, 0, 6, 0, 42, 0, 17, 0, 59, 0, 4, 0, 63, 0, 9, 0, 72, 0, 8, 0, 80, 0, 161, 0, 241, 0,
+        161, 1, 146, 0, 161, 2, 51, 0, 36,
     ];
     assert_eq!(page[..36], pairs);
     assert_eq!(page[36..42], [6, 2, 1, 2, 3, 4]);
     let limiter = [0, 0, 11, 184, 0, 0, 0, 2, 0, 0, 0, 3, 0, 0, 0, 0, 1];
     assert_eq!(page[42..59], limiter);
     assert_eq!(page[59..63], [0, 0, 3, 238]);
-    let alarms = [0x11, 0x12, 0x13, 0x14, 0x21, 0x22, 0x23, 0x24];
-    assert_eq!(page[63..71], alarms);
+    let alarms = [0x11, 0x12, 0x13, 0x14, 0x21, 0x22, 0x23, 0x24, 9];
+    assert_eq!(page[63..72], alarms);
     let errors = [0x31, 0x32, 0x33, 0x34, 0x41, 0x42, 0x43, 0x44];
-    assert_eq!(page[71..79], errors);
-    assert_eq!(page[79..401], [0; 322]);
+    assert_eq!(page[72..80], errors);
+    assert_eq!(page[80..402], [0; 322]);
     let lines = [
         6, 0, 0, 3, 235, 65, 0, 0, 3, 235, 64, 0, 0, 3, 235, 61, 0, 0, 3, 238, 62, 0, 0, 3, 238,
         59, 0, 0, 3, 238, 63,
     ];
-    assert_eq!(page[401..432], lines);
-    assert_eq!(page[432..562], [0; 130]);
+    assert_eq!(page[402..433], lines);
+    assert_eq!(page[433..563], [0; 130]);
     let profile = [
         0x51, 0x52, 0x61, 0x62, 0x63, 0x64, 0x71, 0x72, 0x73, 0x74, 0, 1, 2, 3, 0, 1, 2, 2, 2,
     ];
-    assert_eq!(page[562..581], profile);
-    assert_eq!(page[581..588], [3, 0x81, 0x82, 0x83, 0x84, 0x85, 0x86]);
-    assert_eq!(page[588..], [0; 10]);
+    assert_eq!(page[563..582], profile);
+    assert_eq!(page[582..589], [3, 0x81, 0x82, 0x83, 0x84, 0x85, 0x86]);
+    assert_eq!(page[589..], [0; 10]);
     assert_eq!(Meter::read_page(&page), Ok(meter));
 }
 
@@ -201,12 +202,12 @@ fn the_logs_stand_in_order_on_the_page() {
     meter.event(46).unwrap();
     meter.event(68).unwrap();
     let page = page_of(&meter);
-    assert_eq!(page[79..85], [1, 0, 0, 3, 232, 6]);
-    assert_eq!(page[240..246], [1, 0, 0, 3, 232, 46]);
-    assert_eq!(page[401..407], [1, 0, 0, 3, 232, 68]);
+    assert_eq!(page[80..86], [1, 0, 0, 3, 232, 6]);
+    assert_eq!(page[241..247], [1, 0, 0, 3, 232, 46]);
+    assert_eq!(page[402..408], [1, 0, 0, 3, 232, 68]);
     assert_eq!(
-        page[63..79],
-        [0, 0, 0, 1, 0, 0, 0, 0, 0, 0, 0, 1, 0, 0, 0, 0]
+        page[63..80],
+        [0, 0, 0, 1, 0, 0, 0, 0, 1, 0, 0, 0, 1, 0, 0, 0, 0]
     );
 }
 
@@ -246,14 +247,19 @@ fn the_reader_refuses_in_order() {
     assert_eq!(read(&|page| page[54] = 2), 11);
     assert_eq!(read(&|page| page[58] = 1), 0);
     assert_eq!(read(&|page| page[58] = 2), 11);
-    assert_eq!(read(&|page| page[79] = 33), 11);
-    assert_eq!(read(&|page| page[79] = 1), 11);
-    assert_eq!(read(&|page| (page[79], page[84]) = (1, 255)), 0);
-    assert_eq!(read(&|page| (page[79], page[84]) = (1, 40)), 11);
-    assert_eq!(read(&|page| page[561] = 255), 11);
-    assert_eq!(Meter::read_page(&good[..597]), Err(refusal::LENGTH));
+    assert_eq!(read(&|page| page[66] = 1), 11);
+    assert_eq!(read(&|page| page[71] = 1), 11);
+    assert_eq!(read(&|page| (page[66], page[71]) = (1, 1)), 0);
+    assert_eq!(read(&|page| (page[70], page[71]) = (1, 1)), 11);
+    assert_eq!(read(&|page| (page[35], page[71]) = (37, 1)), 10);
+    assert_eq!(read(&|page| page[80] = 33), 11);
+    assert_eq!(read(&|page| page[80] = 1), 11);
+    assert_eq!(read(&|page| (page[80], page[85]) = (1, 255)), 0);
+    assert_eq!(read(&|page| (page[80], page[85]) = (1, 40)), 11);
+    assert_eq!(read(&|page| page[562] = 255), 11);
+    assert_eq!(Meter::read_page(&good[..598]), Err(refusal::LENGTH));
     assert_eq!(Meter::read_page(&good[..558]), Err(refusal::LENGTH));
-    assert_eq!(Meter::read_page(&[0; 599]), Err(refusal::LENGTH));
+    assert_eq!(Meter::read_page(&[0; 600]), Err(refusal::LENGTH));
 }
 
 /// Wherever the byte stands, and with either test of the logs.
@@ -261,7 +267,7 @@ fn the_reader_refuses_in_order() {
 fn the_reader_refuses_any_byte_past_the_lines() {
     let (meter, _) = worked();
     let good = page_of(&meter);
-    let past = (80..240).chain(241..401).chain(432..562);
+    let past = (81..241).chain(242..402).chain(433..563);
     for place in past {
         let mut page = good;
         page[place] = 64;
@@ -342,7 +348,7 @@ fn a_call_on_a_page_judges_the_kind_first() {
     unsound[36] = 7;
     let pages = [
         (&good[..], 0),
-        (&good[..597], refusal::LENGTH),
+        (&good[..598], refusal::LENGTH),
         (&other_pair, refusal::PAIR),
         (&unsound, refusal::UNSOUND_PAGE),
     ];
@@ -511,6 +517,97 @@ fn clears_write_their_lines() {
     meter.clear_log(1).unwrap();
     let lines: Vec<_> = meter.logs[STANDARD].lines().collect();
     assert_eq!(lines, [(1000, 255)]);
+}
+
+/// The alarm register and how many of its bits stand, after the calls.
+fn alarms_after(calls: &[(u32, u32)]) -> (u32, u8) {
+    let mut meter = example();
+    for &(kind, number) in calls {
+        let _ = meter.command(kind, [number, 0, 0, 0, 0]);
+        assert!(meter.sound());
+        assert_eq!(page_of(&meter)[71], meter.alarm_count);
+    }
+    (meter.alarms, meter.alarm_count)
+}
+
+/// "Keep that number in the record, true after each call" (02, A6)
+#[test]
+fn alarms_are_counted_while_they_stand() {
+    assert_eq!(alarms_after(&[(9, 6), (9, 44)]), (0x2001, 2));
+    // Raised again, by the same code or another.
+    assert_eq!(alarms_after(&[(9, 6), (9, 6)]), (1, 1));
+    assert_eq!(alarms_after(&[(9, 40), (9, 42), (9, 44)]), (0x2000, 1));
+    // Hidden, and refused.
+    assert_eq!(alarms_after(&[(10, 1), (9, 6), (9, 7)]), (2, 1));
+    assert_eq!(alarms_after(&[(9, 1), (9, 41), (9, 9)]), (0, 0));
+    // The filter plays no part in what stands, nor do the errors.
+    assert_eq!(alarms_after(&[(9, 6), (10, u32::MAX)]), (1, 1));
+    assert_eq!(alarms_after(&[(10, u32::MAX), (9, 6), (10, 0)]), (0, 0));
+    assert_eq!(alarms_after(&[(9, 6), (8, 7), (13, u32::MAX)]), (1, 1));
+    assert_eq!(alarms_after(&[(11, u32::MAX), (9, 6)]), (1, 1));
+    let every = [6, 7, 12, 13, 14, 15, 16, 40].map(|code| (9, code));
+    assert_eq!(alarms_after(&every), (0x3f03, 8));
+}
+
+#[test]
+fn cleared_alarms_are_no_longer_counted() {
+    let after = |masks: &[u32]| {
+        let raised = [6, 7, 12].map(|code| (9, code));
+        let cleared: Vec<_> = masks.iter().map(|&mask| (12, mask)).collect();
+        alarms_after(&[&raised[..], &cleared].concat())
+    };
+    assert_eq!(after(&[0]), (0x103, 3));
+    assert_eq!(after(&[2]), (0x101, 2));
+    assert_eq!(after(&[2, 2]), (0x101, 2));
+    assert_eq!(after(&[!0x103]), (0x103, 3));
+    assert_eq!(after(&[0x8000_0101]), (2, 1));
+    assert_eq!(after(&[u32::MAX, u32::MAX]), (0, 0));
+}
+
+/// "A record or page with another number isn't sound." (02, A6)
+#[test]
+fn another_number_of_alarms_is_unsound() {
+    let registers = (0..=32).map(|bits| ((1_u64 << bits) - 1) as u32);
+    let spread = [1 << 31, 0x8000_0001, 0x5555_5555, 0xfffe_ffff];
+    for alarms in registers.chain(spread) {
+        for count in 0..=255 {
+            let mut meter = example();
+            meter.alarm_filter = !alarms;
+            meter.alarms = alarms;
+            meter.alarm_count = count;
+            let sound = u32::from(count) == alarms.count_ones();
+            assert_eq!(meter.sound(), sound, "{count} of {alarms:#x}");
+            let mut page = [0; PAGE];
+            let unsound = (!sound).then_some(refusal::UNSOUND);
+            assert_eq!(meter.write_page(&mut page).err(), unsound);
+            assert_eq!(meter.command(12, [0; 5]).err(), unsound);
+        }
+    }
+}
+
+/// Every byte of the alarms area, with each value.
+#[test]
+fn the_reader_judges_the_alarms_area() {
+    let mut meter = example();
+    for code in [6, 13, 40] {
+        meter.event(code).unwrap();
+    }
+    meter.set_alarm_filter(0x1234_5678).unwrap();
+    let good = page_of(&meter);
+    assert_eq!(good[63..72], [0, 0, 0x22, 1, 0x12, 0x34, 0x56, 0x78, 3]);
+    for (place, value) in (63..72).flat_map(|place| (0..=255).map(move |value| (place, value))) {
+        let mut page = good;
+        page[place] = value;
+        let read = Meter::read_page(&page);
+        assert_eq!(Vectorised::read_page(&page).err(), read.err());
+        let bits: u32 = page[63..67].iter().map(|byte| byte.count_ones()).sum();
+        let counted = bits == u32::from(page[71]);
+        let refused = (!counted).then_some(refusal::UNSOUND_PAGE);
+        assert_eq!(read.err(), refused, "byte {place}, {value}");
+        if let Ok(meter) = read {
+            assert_eq!(page_of(&meter), page);
+        }
+    }
 }
 
 #[test]
@@ -770,7 +867,7 @@ fn the_reader_judges_the_ninth_area() {
     for meter in [grouped(), waiting(5, 200, 300), active] {
         let good = page_of(&meter);
         for (place, value) in
-            (562..PAGE).flat_map(|place| (0..=255).map(move |value| (place, value)))
+            (563..PAGE).flat_map(|place| (0..=255).map(move |value| (place, value)))
         {
             let mut page = good;
             page[place] = value;

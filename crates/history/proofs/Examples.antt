@@ -54,6 +54,7 @@ histories =
       cleared = refl;
       raised-again = refl;
       cleared-by-clock = refl;
+      alarm-counts = refl;
       lines-standard = refl;
       lines-of-firings = refl;
       lines-of-moves = refl;

@@ -4,7 +4,7 @@ use Rattle.history.specs.Switch.{observations}
 use Rattle.history.specs.Laws.{LawsOf, Laws}
 use Rattle.history.proofs.Splits.{mode-split, limits-split, filter-split, clock-split, spell-split, switch-inside, switch-outside}
 use Rattle.history.proofs.Splits.{mode-zero-decides, reconnect-decides, reconnect-outside-decides, manual-decides}
-use Rattle.history.proofs.Splits.{other-modes-decide-nothing, others-decide-nothing, inside-decides-nothing, stands-split, register-bits}
+use Rattle.history.proofs.Splits.{other-modes-decide-nothing, others-decide-nothing, inside-decides-nothing, stands-split, register-bits, alarms-counted}
 use Rattle.history.proofs.Splits.{owed-split}
 use Rattle.history.proofs.Stretches.{sample-seen, setting-seen, others-unseen, in-force, in-force-limits, stretch-split, exceeded-split, run-split}
 use Rattle.history.proofs.Openings.{openings-count-prefixes, openings-accepted, account-accepted, refused-account}
@@ -34,6 +34,7 @@ laws-of f =
       insideDecidesNothing = inside-decides-nothing f;
       bitStands = stands-split;
       registerBits = register-bits;
+      alarmsCounted = alarms-counted;
       settingInForce = in-force f;
       limitsInForce = in-force-limits f;
       sampleSeen = sample-seen f;

@@ -11,16 +11,16 @@ use lib.Dec.{eqb}
 use lib.IntN.{ℤ}
 use borrow.Author.Tests.{eqb-true, eq-eqb, ne-eqb}
 use Rattle.base.specs.Numbers.{held}
-use Rattle.base.specs.Bits.{bit}
+use Rattle.base.specs.Bits.{bit, bitCount}
 use Rattle.base.specs.Tests.{among}
-use Rattle.base.proofs.Bits.{bit-number}
+use Rattle.base.proofs.Bits.{bit-number, number-count}
 use Rattle.events.specs.Line.{Line, line}
-use Rattle.history.specs.Effects.{AnyFresh, remoteDisconnect, remoteReconnect, manualDisconnect, manualReconnect, WhichRegister, Effect, sampled}
+use Rattle.history.specs.Effects.{AnyFresh, remoteDisconnect, remoteReconnect, manualDisconnect, manualReconnect, WhichRegister, alarms, Effect, sampled}
 use Rattle.history.specs.Effects.{requested, modeSet, limitsSet, clockSet, occurred, filterSet, bitsCleared, logCleared, groupsSet, profileSet}
 use Rattle.history.specs.Last.{History, otherwise, given, last, modeIn, modeOf, Limits, limits, limitsIn, limitsOf, filterIn, filterOf, clockIn}
 use Rattle.history.specs.Last.{samplesSince, clockOf}
 use Rattle.history.specs.Switch.{spellEdge, spell, observations, lastDecided, decides, switchOf}
-use Rattle.history.specs.Registers.{raises, clears, stands, bitsOf}
+use Rattle.history.specs.Registers.{raises, clears, stands, bitsOf, alarmCountOf}
 use Rattle.history.specs.Logs.{owedBy, clearsLog, owed}
 use Rattle.history.specs.Splits.{NonePicks, Latest, LatestElse, Ongoing, samplesIn, ClockSince, lastSet, neverSet, InSpell, owedBetween, NotCleared}
 use Rattle.history.specs.Splits.{OwedSince, lastClear, neverCleared}
@@ -283,6 +283,9 @@ stands-split s b = ongoing-split (raises s b) (λ e h. clears s b e) (stands s b
 
 pub register-bits : (s : WhichRegister) (b : ℕ) (h : History) → b < 32 → bit (bitsOf s h) b ≡ stands s b h
 register-bits s b h = bit-number 32 (λ b. stands s b h) b
+
+pub alarms-counted : (h : History) → alarmCountOf h ≡ bitCount (bitsOf alarms h)
+alarms-counted h = sym (number-count (λ b. stands alarms b h))
 
 -- ---- 'the .. lines owed by the call rules since that log was last cleared, its 255 included'
 clears-not : (n : ℕ) (e : Effect) → e ≢ logCleared n → clearsLog n e ≡ false

@@ -12,7 +12,7 @@ use Rattle.history.specs.Last.{History, modeOf, limitsOf, thresholdOf, f
 use Rattle.history.specs.Profile.{groupsOf, ProfileState, profileState}
 use Rattle.history.specs.Limiter.{monitoredValues}
 use Rattle.history.specs.Switch.{switchOf, exceededOf, runOf}
-use Rattle.history.specs.Registers.{bitsOf}
+use Rattle.history.specs.Registers.{bitsOf, alarmCountOf}
 use Rattle.history.specs.Logs.{logOf}
 
 -- what the account holds of a monitored value: 'Exceeded, yes or no. Run', and its threshold
@@ -32,6 +32,8 @@ pub record AnyAccount : Type 0 where
   pub clock : ℕ
   pub alarms : ℕ
   pub alarmFilter : ℕ
+  -- document 02, A6: 'Pages and accounts compare with it included'
+  pub alarmCount : ℕ
   pub errors : ℕ
   pub errorFilter : ℕ
   pub logs : List (List Line)
@@ -80,6 +82,7 @@ accountOf f h opened =
       clock = clockOf f h;
       alarms = bitsOf alarms h;
       alarmFilter = filterOf alarms h;
+      alarmCount = alarmCountOf h;
       errors = bitsOf errors h;
       errorFilter = filterOf errors h;
       logs = map (λ n. logOf f n h) (1 ∷ 2 ∷ 3 ∷ []);

@@ -6,7 +6,7 @@ use mathlib.Core.List.{List, [], _∷_, _++_, map}
 use lib.IntN.{pos, negsuc}
 use lib.ListN.{length, getD, replicate}
 use Rattle.base.specs.Tests.{every, any, numbersFrom, gathered, among}
-use Rattle.base.specs.Bits.{bit, number}
+use Rattle.base.specs.Bits.{bit, number, howMany}
 use Rattle.events.specs.Line.{Line, line, newest}
 use Rattle.events.specs.Table.{builtIn, lookup}
 use Rattle.calls.specs.declared.Call.{Call}
@@ -27,8 +27,8 @@ fresh m t o u c = record { mode = m; threshold = pos t; over = o; under = u; clo
 
 -- the account by the built-in table; to unfold it is to unfold what it is made of
 unfoldable pub builtInAccount : Fresh → List Call → Account
-unfolding every any numbersFrom gathered among bit number newest builtIn lookup reading last samplesSince clocksSince fromReached duration sinceSetting allAre exceeded trailing
-    observations lastDecided spell switchOf stands owed acceptedCalls openings
+unfolding every any numbersFrom gathered among bit number howMany newest builtIn lookup reading last samplesSince clocksSince fromReached duration
+    sinceSetting allAre exceeded trailing observations lastDecided spell switchOf stands owed acceptedCalls openings
 builtInAccount f calls = account builtIn f calls
 
 -- '.. refusal or 0 ..'

@@ -237,6 +237,12 @@ pub record Histories : Type 0 where
   pub raised-again : registerValues (Event 6 ∷ ClearAlarms 1 ∷ ClearErrors 1 ∷ Event 6 ∷ []) ≡ (1, 0, 1, 0)
   -- 'error bit 0: nor clock setting'; alarm bit 0 and error bit 1 stand
   pub cleared-by-clock : registerValues (Event 6 ∷ Event 7 ∷ SetClock 5 ∷ []) ≡ (3, 0, 2, 0)
+  -- document 02, A6: three alarms, one raised twice; a hidden one is not raised; one that a later filter would hide stands; a clear of one
+  -- that stands and one that does not, and one of every bit
+  pub alarm-counts :
+      map (λ calls. builtInAccount (fresh 1 3 1 1 1000) (Event 6 ∷ Event 16 ∷ Event 40 ∷ Event 6 ∷ calls) .alarmCount)
+      ([] ∷ (SetAlarmFilter 2 ∷ Event 7 ∷ []) ∷ (SetAlarmFilter 1 ∷ []) ∷ (ClearAlarms 3 ∷ []) ∷ (ClearAlarms 4294967295 ∷ []) ∷ [])
+      ≡ 3 ∷ 3 ∷ 3 ∷ 2 ∷ 0 ∷ []
   -- call 8: 'standard line 4 with the old clock, line 5 with the new'; calls 12, 13: 'standard line 11 or 10, mask 0 included';
   -- call 9: 'one line in its log'
   pub lines-standard :
@@ -283,6 +289,7 @@ pub record Histories : Type 0 where
         clock = 1000;
         alarms = 0;
         alarmFilter = 0;
+        alarmCount = 0;
         errors = 0;
         errorFilter = 0;
         logs = [] ∷ [] ∷ [] ∷ [];

@@ -11,19 +11,20 @@ use lib.Dec.{eqb}
 use lib.IntN.{ℤ}
 use lib.Signed.{ltZ}
 use lib.ListN.{length}
-use Rattle.base.specs.Bits.{bit}
+use Rattle.base.specs.Bits.{bit, bitCount}
 use Rattle.base.specs.Tests.{among, eqZ, gathered}
 use Rattle.events.specs.Line.{Line, line}
 use Rattle.events.specs.Table.{EventRow}
 use Rattle.calls.specs.declared.Letter.{Letter}
 use Rattle.calls.specs.declared.Letter.the-variants.{None}
-use Rattle.history.specs.Effects.{AnyFresh, AnyCall, remoteReconnect, manualDisconnect, manualReconnect, WhichRegister, Effect, sampled, requested}
+use Rattle.history.specs.Effects.{AnyFresh, AnyCall, remoteReconnect, manualDisconnect, manualReconnect, WhichRegister, alarms, Effect, sampled}
+use Rattle.history.specs.Effects.{requested}
 use Rattle.history.specs.Effects.{modeSet, limitsSet, profileSet, Profile, refused, reading}
 use Rattle.history.specs.Last.{History, given, modeIn, modeOf, Limits, limits, limitsIn, limitsOf, thresholdOf, numberAt, filterIn, filterOf, clockOf}
 use Rattle.history.specs.Profile.{groupsIn, groupsOf, profileIn, profileOf, ProfileState, noProfile, waiting, profileState, thresholdInForce, thresholdAt}
 use Rattle.history.specs.Limiter.{Observation, setting, judged, stretchEnds, exceeded, run, firesOver, firesUnder, monitoredValues}
 use Rattle.history.specs.Switch.{spell, settingOf, changeSeen, observations, decides, switchOf, exceededOf, runOf}
-use Rattle.history.specs.Registers.{raises, clears, stands, bitsOf}
+use Rattle.history.specs.Registers.{raises, clears, stands, bitsOf, alarmCountOf}
 use Rattle.history.specs.Logs.{when, moves, localCode, firingLines, owedBy, owed}
 use Rattle.history.specs.Splits.{LatestElse, Ongoing, ClockSince, InSpell, OwedSince, openingPrefixes, SeenSince, InForce, FullStretch}
 use Rattle.history.specs.Splits.{stretchAt, Trailing, NoneSet, Waits, Begun, InState}
@@ -132,6 +133,10 @@ pub record LawsOf (f : AnyFresh) : Type 0 where
       (s : WhichRegister) (b : ℕ) (h : History)
       → b < 32
       → bit (bitsOf s h) b ≡ stands s b h
+  -- document 02, A6: 'The display counts the alarm bits ..': the count is that of the register's bits, whatever the filter
+  pub alarmsCounted :
+      (h : History)
+      → alarmCountOf h ≡ bitCount (bitsOf alarms h)
   -- 'A limiter setting is fresh or an accepted call 7': there is always one in force, for each monitored value
   pub settingInForce :
       (k : ℕ) (h : History)

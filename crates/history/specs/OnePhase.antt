@@ -71,6 +71,8 @@ pub record Account : Type 0 where
   pub clock : ℕ
   pub alarms : ℕ
   pub alarmFilter : ℕ
+  -- document 02, A6: 'Pages and accounts compare with it included'
+  pub alarmCount : ℕ
   pub errors : ℕ
   pub errorFilter : ℕ
   pub logs : List (List Line)
@@ -97,6 +99,7 @@ onePhase a =
       clock = a .clock;
       alarms = a .alarms;
       alarmFilter = a .alarmFilter;
+      alarmCount = a .alarmCount;
       errors = a .errors;
       errorFilter = a .errorFilter;
       logs = a .logs;

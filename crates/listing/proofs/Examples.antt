@@ -5,6 +5,8 @@ use Rattle.events.specs.{Line.newest, Table.builtIn, Table.lookup, Codes.beside
 use Rattle.control.specs.Table.{switchTable}
 use Rattle.control.specs.Control.{decision, modeDecision, soundControl}
 use Rattle.limiter.specs.Limiter.{watched, soundLimiter}
+use Rattle.base.specs.Bits.{bit, howMany}
+use Rattle.registers.specs.Alarms.{soundAlarms}
 use Rattle.emergency.specs.Emergency.{soundEmergency}
 use Rattle.logs.specs.Lists.{changed}
 use Rattle.logs.specs.Arrays.{ownCodes, zeroPast, soundLog, soundArrays}
@@ -19,6 +21,7 @@ use Rattle.listing.specs.Examples.{Examples}
 
 pub examples : Examples
 unfolding listingOf linesFrom flatMap decimal digits field lineBytes be numAt freshAnswer callOf commanded applied soundMeter soundScalars
-    soundControl soundLimiter soundEmergency soundLogs soundArrays soundLog ownCodes zeroPast padded flat laid listsOf changed newest among every any below
+    soundControl soundLimiter soundAlarms bit howMany soundEmergency soundLogs soundArrays soundLog ownCodes zeroPast padded flat laid listsOf changed
+    newest among every any below
     gathered eachFrom builtIn lookup besides mayHold switchTable decision modeDecision watched requestResult sampleResult modeResult scriptResult
 examples = record { empty = refl; first-cut = refl; bad = refl; refused = refl; cut = refl; taken = refl; worked = refl }

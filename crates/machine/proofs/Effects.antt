@@ -8,6 +8,7 @@ use lib.IntN.{pos}
 use lib.Signed.{leZ}
 use Rattle.base.specs.Tests.{within, among, every}
 use Rattle.registers.specs.declared.Register.{Register}
+use Rattle.registers.specs.declared.Alarms.{Alarms}
 use Rattle.events.specs.Line.{isLog}
 use Rattle.events.specs.Table.{lawful}
 use Rattle.control.specs.declared.Control.{Control}
@@ -28,7 +29,7 @@ use Rattle.history.specs.Last.{History, modeOf, limitsOf, thresholdOf, filterOf
 use Rattle.history.specs.Profile.{groupsOf, profileState}
 use Rattle.history.specs.Limiter.{monitoredValues}
 use Rattle.history.specs.Switch.{switchOf, exceededOf, runOf}
-use Rattle.history.specs.Registers.{bitsOf}
+use Rattle.history.specs.Registers.{bitsOf, alarmCountOf}
 use Rattle.history.specs.Account.{opens}
 use Rattle.machine.specs.Values.{Values, withControl, withLimiters, withEmergency}
 use Rattle.machine.specs.Machine.{Change, Result, refusing, making, owing, lineNow, moving, decided, armedBy, armedValues, requestOf, sampleResult}
@@ -105,6 +106,9 @@ heldLimiters f h = map (heldLimiter f h) (monitoredValues f)
 abbrev pub registerOf : WhichRegister → History → Register
 registerOf s h = record { bits = bitsOf s h; filter = filterOf s h }
 
+abbrev pub heldAlarms : History → Alarms
+heldAlarms h = record { register = registerOf alarms h; count = alarmCountOf h }
+
 -- the groups and the profile
 abbrev pub heldEmergency : AnyFresh → History → Emergency
 heldEmergency f h = emergencyOf (groupsOf h) (profileState f h)
@@ -115,7 +119,7 @@ heldValues f h n =
       control = heldControl f h n;
       limiters = heldLimiters f h;
       clock = clockOf f h;
-      alarms = registerOf alarms h;
+      alarms = heldAlarms h;
       errors = registerOf errors h;
       emergency = heldEmergency f h;
     }

@@ -10,15 +10,20 @@ use lib.IntN.{ℤ, pos}
 use lib.ListN.{take, length-take}
 use lib.Signed.{leZ}
 use borrow.Author.Tests.{leb-true}
+use Rattle.base.specs.Bits.{bit, howMany}
 use Rattle.base.specs.Numbers.{held}
 use Rattle.base.specs.Tests.{within, among, every, any, below, gathered, eachFrom}
 use Rattle.base.proofs.Bools.{and-left, and-right}
 use Rattle.base.proofs.Every.{every-append, among-passes}
 use Rattle.events.specs.Line.{Line, line, isLog}
-use Rattle.events.specs.Table.{EventRow, lookup, lawful}
+use Rattle.events.specs.Table.{EventRow, lookup, mask, lawful}
 use Rattle.events.specs.Codes.{besides, mayHold}
 use Rattle.events.proofs.Rule.{row-held, row-log}
 use Rattle.calls.specs.declared.Letter.the-variants.{None}
+use Rattle.registers.specs.declared.Alarms.{Alarms}
+use Rattle.registers.specs.Register.{raised, cleared}
+use Rattle.registers.specs.Alarms.{alarmsRaised, alarmsCleared, alarmsFiltered, soundAlarms}
+use Rattle.registers.proofs.Counts.{counted-sound, filtered-sound}
 use Rattle.control.specs.declared.Control.{Control}
 use Rattle.control.specs.declared.Request.{Request}
 use Rattle.control.specs.declared.Request.the-variants as request
@@ -39,7 +44,7 @@ use Rattle.calls.specs.declared.Answer.{Answer}
 use Rattle.history.specs.Effects.{AnyFresh, alarms, errors, AnyCall, sample, request as requestCall, setMode, setLimiter, setClock, event, setFilter}
 use Rattle.history.specs.Effects.{clearBits, clearLog, script, Profile, setGroups, setProfile}
 use Rattle.history.specs.Last.{numberAt}
-use Rattle.machine.specs.Values.{Values, State, withControl, withLimiters, withClock, withEmergency}
+use Rattle.machine.specs.Values.{Values, State, withControl, withLimiters, withClock, withAlarms, withEmergency}
 use Rattle.machine.specs.Settings.{limitsAnswer}
 use Rattle.machine.specs.Sound.{soundValues, soundState}
 use Rattle.machine.specs.Machine.{Change, Result, refusing, making, owing, answeredWith, lineNow, moving, decided, requestOf}
@@ -121,35 +126,49 @@ fresh-limiters : (f : AnyFresh) (ts : List ℤ) → every isThreshold ts ≡ tru
     → every soundLimiter (map (freshLimiter f) ts) ≡ true
 fresh-limiters f ts h a b = every-map isThreshold (freshLimiter f) soundLimiter ts (λ t e. settings-sound (freshLimiter f t) t (f .over) (f .under) e a b) h
 
--- ---- the values: mode and switch, limiters, and profile and groups
-values-of : (c : Control) (l : List Limiter) (e : Emergency) → soundControl c ≡ true → every soundLimiter l ≡ true → soundEmergency e ≡ true
-    → (soundControl c && (every soundLimiter l && soundEmergency e)) ≡ true
-values-of c l e h k m = rw (h, k, m)
+-- ---- the values: mode and switch, limiters, the alarm count, and profile and groups
+values-of : (c : Control) (l : List Limiter) (a : Alarms) (e : Emergency) → soundControl c ≡ true → every soundLimiter l ≡ true
+    → soundAlarms a ≡ true → soundEmergency e ≡ true → (soundControl c && (every soundLimiter l && (soundAlarms a && soundEmergency e))) ≡ true
+values-of c l a e h k n m = rw (h, k, n, m)
 
 module _ (s : Values) (h : soundValues s ≡ true) where
-  control-sound : soundControl (s .control) ≡ true
+  abbrev soundTail : Bool
+  soundTail = soundAlarms (s .alarms) && soundEmergency (s .emergency)
+
+  pub control-sound : soundControl (s .control) ≡ true
   unfolding soundValues
-  control-sound = and-left (soundControl (s .control)) (every soundLimiter (s .limiters) && soundEmergency (s .emergency)) h
+  control-sound = and-left (soundControl (s .control)) (every soundLimiter (s .limiters) && soundTail) h
 
-  rest-sound : every soundLimiter (s .limiters) && soundEmergency (s .emergency) ≡ true
+  rest-sound : every soundLimiter (s .limiters) && soundTail ≡ true
   unfolding soundValues
-  rest-sound = and-right (soundControl (s .control)) (every soundLimiter (s .limiters) && soundEmergency (s .emergency)) h
+  rest-sound = and-right (soundControl (s .control)) (every soundLimiter (s .limiters) && soundTail) h
 
-  limiters-sound : every soundLimiter (s .limiters) ≡ true
-  limiters-sound = and-left (every soundLimiter (s .limiters)) (soundEmergency (s .emergency)) rest-sound
+  pub limiters-sound : every soundLimiter (s .limiters) ≡ true
+  limiters-sound = and-left (every soundLimiter (s .limiters)) soundTail rest-sound
 
-  emergency-sound : soundEmergency (s .emergency) ≡ true
-  emergency-sound = and-right (every soundLimiter (s .limiters)) (soundEmergency (s .emergency)) rest-sound
+  tail-sound : soundTail ≡ true
+  tail-sound = and-right (every soundLimiter (s .limiters)) soundTail rest-sound
+
+  pub alarms-sound : soundAlarms (s .alarms) ≡ true
+  alarms-sound = and-left (soundAlarms (s .alarms)) (soundEmergency (s .emergency)) tail-sound
+
+  pub emergency-sound : soundEmergency (s .emergency) ≡ true
+  emergency-sound = and-right (soundAlarms (s .alarms)) (soundEmergency (s .emergency)) tail-sound
+
+  -- with another alarm register, which is sound
+  with-alarms : (a : Alarms) → soundAlarms a ≡ true → soundValues (withAlarms s a) ≡ true
+  unfolding soundValues
+  with-alarms a k = values-of (s .control) (s .limiters) a (s .emergency) control-sound limiters-sound k emergency-sound
 
 -- with the limiters that a request leaves
 armed-values : (s : Values) (q : Request) → soundValues s ≡ true → soundValues (armedValues s q) ≡ true
 unfolding soundValues
 armed-values s q h =
     let sound = limiters-sound s h in
-    values-of (s .control) (armedValues s q .limiters) (s .emergency) (control-sound s h)
+    values-of (s .control) (armedValues s q .limiters) (s .alarms) (s .emergency) (control-sound s h)
     (armed-or-not (λ ls. every soundLimiter ls ≡ true) q (decided s q) (s .limiters) sound
     (every-map soundLimiter armed soundLimiter (s .limiters) armed-sound sound))
-    (emergency-sound s h)
+    (alarms-sound s h) (emergency-sound s h)
 
 -- the values that a call leaves are sound, and its lines may stand in their log
 pub record SoundChange (rows : List EventRow) (k : Change) : Type 0 where
@@ -170,7 +189,9 @@ module _ (rows : List EventRow) where
       go : (d : Decision) → decided s q ≡ d → SoundChange rows (moving s xs d)
       go (Move t c b l) e =
           record {
-            values = values-of _ (s .limiters) (s .emergency) (moved-sound _ q _ c b l e) (limiters-sound s h) (emergency-sound s h);
+            values =
+                values-of _ (s .limiters) (s .alarms) (s .emergency) (moved-sound _ q _ c b l e)
+                (limiters-sound s h) (alarms-sound s h) (emergency-sound s h);
             lines =
                 every-append (λ x. mayHold rows 3 (x .code)) xs (lineNow s c ∷ []) o
                 (move-own rows (s .clock) c (table-move q _ _ t c b l e .code));
@@ -240,9 +261,9 @@ module _ (rows : List EventRow) where
       let ws = sampledEach (s .emergency) during after (s .limiters) ps in
       let next = withEmergency (withLimiters (withClock s now) (map (λ w. w .limiter) ws)) after in
       firing-sound next _ _ ws
-      (values-of (s .control) (map (λ w. w .limiter) ws) after (control-sound s h)
+      (values-of (s .control) (map (λ w. w .limiter) ws) (s .alarms) after (control-sound s h)
       (sampled-sound (s .emergency) during after 0 (s .limiters) ps (limiters-sound s h))
-      (ended-sound during (started-sound now (s .emergency) (emergency-sound s h))))
+      (alarms-sound s h) (ended-sound during (started-sound now (s .emergency) (emergency-sound s h))))
       (change-own next (map (sameThreshold (s .emergency) during) (s .limiters)))
       (change-own next (map (sameThreshold during after) (s .limiters)))
 
@@ -252,7 +273,8 @@ module _ (rows : List EventRow) where
       either (SoundResult rows) (leb n 8)
       (λ e. record {
         values =
-            values-of (s .control) (s .limiters) (withGroups (s .emergency) (take n ids)) (control-sound s h) (limiters-sound s h)
+            values-of (s .control) (s .limiters) (s .alarms) (withGroups (s .emergency) (take n ids)) (control-sound s h)
+            (limiters-sound s h) (alarms-sound s h)
             (groups-sound (s .emergency) (take n ids) (omega (arith, length-take n ids, leb-true n 8 e)) (emergency-sound s h));
         lines = refl;
       })
@@ -267,9 +289,10 @@ module _ (rows : List EventRow) where
       (λ e. either (SoundResult rows) (within 1 604800 (w .duration) && leZ (pos 0) (w .threshold))
       (λ d. record {
         values =
-            values-of (s .control) (map (λ l. restartedBy (sameThreshold (s .emergency) next l) l) (s .limiters)) next (control-sound s h)
+            values-of (s .control) (map (λ l. restartedBy (sameThreshold (s .emergency) next l) l) (s .limiters)) (s .alarms) next (control-sound s h)
             (every-map soundLimiter (λ l. restartedBy (sameThreshold (s .emergency) next l) l) soundLimiter (s .limiters)
             (λ l. restarted-by-sound (sameThreshold (s .emergency) next l) l) (limiters-sound s h))
+            (alarms-sound s h)
             (waiting-sound (s .emergency) (w .id) (w .threshold) (w .activation) (w .duration)
             (rw (and-left (within 1 604800 (w .duration)) (leZ (pos 0) (w .threshold)) d, and-right (within 1 604800 (w .duration)) (leZ (pos 0) (w .threshold)) d, i))
             (emergency-sound s h));
@@ -290,12 +313,16 @@ module _ (rows : List EventRow) where
           → SoundChange rows (moving (withControl s (inMode (s .control) n)) [] (cond b (Move 1 63 false None) Stay))
       go k true e =
           record {
-            values = values-of _ (s .limiters) (s .emergency) (mode-moved-sound _ (s .control .state) 63 false None k e) (limiters-sound s h) (emergency-sound s h);
+            values =
+                values-of _ (s .limiters) (s .alarms) (s .emergency) (mode-moved-sound _ (s .control .state) 63 false None k e)
+                (limiters-sound s h) (alarms-sound s h) (emergency-sound s h);
             lines = further-own rows 3 (s .clock) 63 refl refl;
           }
       go k false e =
           record {
-            values = values-of _ (s .limiters) (s .emergency) (mode-stays-sound (s .control) n (control-sound s h) k e) (limiters-sound s h) (emergency-sound s h);
+            values =
+                values-of _ (s .limiters) (s .alarms) (s .emergency) (mode-stays-sound (s .control) n (control-sound s h) k e)
+                (limiters-sound s h) (alarms-sound s h) (emergency-sound s h);
             lines = refl;
           }
 
@@ -307,11 +334,11 @@ module _ (rows : List EventRow) where
       (λ a. either made (isDuration o && isDuration u)
       (λ b. record {
         values =
-            values-of (s .control) (settingsEach (s .limiters) ts o u) (s .emergency) (control-sound s h)
+            values-of (s .control) (settingsEach (s .limiters) ts o u) (s .alarms) (s .emergency) (control-sound s h)
             (set-sound 0 (s .limiters) ts o u
             (λ k. rw (every-number (leZ (pos 0)) ts k refl a, every-number (λ t. leZ t (pos 2147483647)) ts k refl i))
             (and-left (isDuration o) (isDuration u) b) (and-right (isDuration o) (isDuration u) b))
-            (emergency-sound s h);
+            (alarms-sound s h) (emergency-sound s h);
         lines = further-own rows 3 (s .clock) 67 refl refl;
       })
       (λ b. tt))
@@ -328,7 +355,7 @@ module _ (rows : List EventRow) where
       go none e = tt
       go (some r) e =
           record {
-            values = h;
+            values = with-alarms s h (alarmsRaised (s .alarms) (mask (r .alarm))) (counted-sound (raised (s .alarms .register) (mask (r .alarm))));
             lines = one-own rows (r .log) (s .clock) (r .code) (row-held rows c r e (row-log rows all c r e));
           }
 
@@ -360,9 +387,14 @@ module _ (rows : List EventRow) where
             (further-own rows 1 (s .clock) 4 refl refl) (further-own rows 1 n 5 refl refl);
       }
   result-sound all s (event c) i h = event-sound all s c h
-  result-sound all s (setFilter alarms n) i h = record { values = h; lines = refl }
+  result-sound all s (setFilter alarms n) i h =
+      record { values = with-alarms s h (alarmsFiltered (s .alarms) n) (filtered-sound (s .alarms) n (alarms-sound s h)); lines = refl }
   result-sound all s (setFilter errors n) i h = record { values = h; lines = refl }
-  result-sound all s (clearBits alarms n) i h = record { values = h; lines = further-own rows 1 (s .clock) 11 refl refl }
+  result-sound all s (clearBits alarms n) i h =
+      record {
+        values = with-alarms s h (alarmsCleared (s .alarms) n) (counted-sound (cleared (s .alarms .register) n));
+        lines = further-own rows 1 (s .clock) 11 refl refl;
+      }
   result-sound all s (clearBits errors n) i h = record { values = h; lines = further-own rows 1 (s .clock) 10 refl refl }
   result-sound all s (clearLog n) i h = clear-log-sound s n h
   result-sound all s (script n) i h = script-sound s n h
@@ -389,6 +421,6 @@ module _ (rows : List EventRow) (all : every lawful rows ≡ true) where
 
 -- ---- the fresh meter
 pub fresh-sound : (rows : List EventRow) (f : AnyFresh) → AnySettings f → soundState rows (freshValues f) ≡ true
-unfolding soundState soundValues soundControl soundEmergency soundLists below every
+unfolding soundState soundValues soundControl soundAlarms bit howMany soundEmergency soundLists below every
 fresh-sound rows f h =
     rw (h .mode, or-true, fresh-limiters f (f .thresholds) (h .thresholds) (h .over) (h .under))

@@ -1,4 +1,5 @@
--- The registers: after each accepted call the machine's bits and filters are the account's. One argument for both registers.
+-- The registers: after each accepted call the machine's bits and filters are the account's, and so is the alarm count. One argument for
+-- both registers.
 use Prim.Native.Nat.{ℕ, _^_, _<_}
 use native.Mathlib.Omega.{arith}
 use mathlib.Core.Path.{_≡_, refl, sym, ap, ap₂, _∙_}
@@ -8,26 +9,27 @@ use mathlib.Core.Option.{Option, none, some}
 use lib.Dec.{eqb}
 use lib.Bits.{bitOr, bitAnd}
 use borrow.Author.Tests.{lt-ltb, eq-eqb, ne-eqb, eqb-true, eqb-false}
-use Rattle.base.specs.Bits.{bit, number, inverse}
+use Rattle.base.specs.Bits.{bit, number, bitCount, inverse}
 use Rattle.base.specs.Tests.{every}
-use Rattle.base.proofs.Bits.{number-ext, number-none, number-at, number-bits, clear-by, raise-by}
+use Rattle.base.proofs.Bits.{number-ext, number-none, number-at, number-bits, number-count, clear-by, raise-by}
 use Rattle.calls.specs.Calls.{Word}
 use Rattle.registers.specs.declared.Register.{Register}
+use Rattle.registers.specs.declared.Alarms.{Alarms}
 use Rattle.registers.specs.Register.{raised, cleared, withFilter}
 use Rattle.events.specs.Table.{EventRow, lookup, mask, lawful}
 use Rattle.events.proofs.Rule.{row-alarm, row-error}
 use Rattle.history.specs.Effects.{AnyFresh, WhichRegister, alarms, errors, Effect, sampled, requested, modeSet, limitsSet, clockSet, occurred, filterSet}
 use Rattle.history.specs.Effects.{bitsCleared, logCleared, groupsSet, profileSet}
 use Rattle.history.specs.Last.{History, last, modeOf, filterOf}
-use Rattle.history.specs.Registers.{bitIn, isBit, stands}
+use Rattle.history.specs.Registers.{bitIn, isBit, stands, alarmCountOf}
 use Rattle.machine.specs.Values.{Values, withControl, withLimiters}
-use Rattle.machine.proofs.Effects.{effectResult, Proper, AllProper, registerOf}
+use Rattle.machine.proofs.Effects.{effectResult, Proper, AllProper, registerOf, heldAlarms}
 use Rattle.machine.proofs.OtherParts.{otherParts, values-after}
 use Rattle.machine.proofs.Ranges.{filter-word}
 
 -- a register of the values
 abbrev pub sideOf : WhichRegister → Values → Register
-sideOf alarms s = s .alarms
+sideOf alarms s = s .alarms .register
 sideOf errors s = s .errors
 
 eqb-comm : (a b : ℕ) → eqb a b ≡ eqb b a
@@ -71,7 +73,7 @@ mask-number (some k) l =
 
 -- values with the same registers
 same-side : (x : WhichRegister) (s t : Values) → s .alarms ≡ t .alarms → s .errors ≡ t .errors → sideOf x s ≡ sideOf x t
-same-side alarms s t a b = a
+same-side alarms s t a b = ap (λ (a : Alarms). a .register) a
 same-side errors s t a b = b
 
 module _ (x : WhichRegister) (h : History) (r : Register) (same : r ≡ registerOf x h) where
@@ -95,13 +97,13 @@ module _ (f : AnyFresh) (h : History) (s : Values) (all : AllProper f h) where
   register-part x (limitsSet t o u) g same = same
   register-part alarms (clockSet n) g same = same
   register-part errors (clockSet n) g same = clear-side errors h (s .errors) same 1 (λ b. eqb b 0) (sym (number-at 32 0))
-  register-part alarms (occurred r) g same = raise-side alarms h (s .alarms) same r g (filter-word alarms f h all)
+  register-part alarms (occurred r) g same = raise-side alarms h (s .alarms .register) same r g (filter-word alarms f h all)
   register-part errors (occurred r) g same = raise-side errors h (s .errors) same r g (filter-word errors f h all)
   register-part alarms (filterSet alarms n) g same = ap (λ (r : Register). withFilter r n) same
   register-part errors (filterSet alarms n) g same = same
   register-part alarms (filterSet errors n) g same = same
   register-part errors (filterSet errors n) g same = ap (λ (r : Register). withFilter r n) same
-  register-part alarms (bitsCleared alarms n) g same = clear-side alarms h (s .alarms) same n (bit n) (sym (number-bits 32 n (omega arith)))
+  register-part alarms (bitsCleared alarms n) g same = clear-side alarms h (s .alarms .register) same n (bit n) (sym (number-bits 32 n (omega arith)))
   register-part errors (bitsCleared alarms n) g same = same
   register-part alarms (bitsCleared errors n) g same = same
   register-part errors (bitsCleared errors n) g same = clear-side errors h (s .errors) same n (bit n) (sym (number-bits 32 n (omega arith)))
@@ -116,3 +118,37 @@ module _ (f : AnyFresh) (h : History) (s : Values) (all : AllProper f h) where
       ∙ same-side x (withControl (withLimiters (otherParts s e) (effectResult s e .values .limiters)) (effectResult s e .values .control))
       (otherParts s e) refl refl
       ∙ register-part x e g same
+
+  -- ---- how many alarms stand
+  count-part : (e : Effect) → Proper (modeOf f h) e → s .alarms ≡ heldAlarms h → otherParts s e .alarms .count ≡ alarmCountOf (e ∷ h)
+  unfolding stands
+  count-part e g same = go e g
+    where
+      kept : s .alarms .count ≡ alarmCountOf h
+      kept = ap (λ (a : Alarms). a .count) same
+
+      -- where the bits change they are counted
+      counted : (e : Effect) → otherParts s e .alarms .count ≡ bitCount (otherParts s e .alarms .register .bits) → Proper (modeOf f h) e
+          → otherParts s e .alarms .count ≡ alarmCountOf (e ∷ h)
+      counted e q g =
+          q
+          ∙ ap (λ (r : Register). bitCount (r .bits)) (register-part alarms e g (ap (λ (a : Alarms). a .register) same))
+          ∙ number-count (λ b. stands alarms b (e ∷ h))
+
+      go : (e : Effect) → Proper (modeOf f h) e → otherParts s e .alarms .count ≡ alarmCountOf (e ∷ h)
+      go (sampled p) g = kept
+      go (requested q) g = kept
+      go (modeSet n) g = kept
+      go (limitsSet t o u) g = kept
+      go (clockSet n) g = kept
+      go (occurred r) g = counted (occurred r) refl g
+      go (filterSet alarms n) g = kept
+      go (filterSet errors n) g = kept
+      go (bitsCleared alarms n) g = counted (bitsCleared alarms n) refl g
+      go (bitsCleared errors n) g = kept
+      go (logCleared n) g = kept
+      go (groupsSet ids) g = kept
+      go (profileSet w) g = kept
+
+  pub count-after : (e : Effect) → Proper (modeOf f h) e → s .alarms ≡ heldAlarms h → effectResult s e .values .alarms .count ≡ alarmCountOf (e ∷ h)
+  count-after e g same = ap (λ (v : Values). v .alarms .count) (values-after s e) ∙ count-part e g same

@@ -7,7 +7,7 @@ use mathlib.Core.Bool.{true, cond, and-not-self}
 use mathlib.Core.List.{List, [], _∷_, map, reverse, reverseAux}
 use lib.Dec.{eqb}
 use Rattle.base.specs.Numbers.{held}
-use Rattle.base.specs.Bits.{number}
+use Rattle.base.specs.Bits.{number, howMany}
 use Rattle.base.specs.Tests.{every}
 use Rattle.events.specs.Line.{newest}
 use Rattle.events.specs.Table.{EventRow, lawful}
@@ -40,7 +40,7 @@ use Rattle.machine.proofs.Profile.{profile-sampled, groups-back}
 use Rattle.machine.proofs.Preserved.{kept-sound, fresh-sound}
 use Rattle.machine.proofs.Clock.{clock-after}
 use Rattle.machine.proofs.OtherParts.{otherParts, values-after}
-use Rattle.machine.proofs.Registers.{register-after}
+use Rattle.machine.proofs.Registers.{register-after, count-after}
 use Rattle.machine.proofs.Switch.{control-kept, limiters-after, letter-after}
 use Rattle.machine.proofs.Lines.{logs-after}
 use Rattle.machine.proofs.Owed.{owing-after}
@@ -104,7 +104,7 @@ stated-after f h e n t all g =
             control = control-kept f h e n t all g i;
             limiters = limiters-after f h e n t all g i;
             clock = clock-after f h s refl e g i;
-            alarms = register-after f h s all alarms e g refl i;
+            alarms = record { register = register-after f h s all alarms e g refl i; count = count-after f h s all e g refl i };
             errors = register-after f h s all errors e g refl i;
             emergency = emergency-after f h n all e i;
           };
@@ -120,7 +120,7 @@ effect-after f h e n t all g =
 
 -- no call: a fresh meter's values are those that the account of no call names
 pub fresh-values : (f : AnyFresh) → AnySettings f → freshValues f ≡ valuesHolding (accountOf f [] 0)
-unfolding last samplesSince observations exceeded trailing sinceSetting spell switchOf stands number owed newest padded
+unfolding last samplesSince observations exceeded trailing sinceSetting spell switchOf stands number howMany owed newest padded
 fresh-values f t =
     let v = freshValues f in
     λ i. record {

@@ -20,7 +20,7 @@ freshValues f =
             control = record { mode = f .mode; state = 1; openings = 0 };
             limiters = map (freshLimiter f) (f .thresholds);
             clock = f .clock;
-            alarms = record { bits = 0; filter = 0 };
+            alarms = record { register = record { bits = 0; filter = 0 }; count = 0 };
             errors = record { bits = 0; filter = 0 };
             emergency = noEmergency;
           };

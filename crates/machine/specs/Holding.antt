@@ -27,7 +27,7 @@ valuesHolding a =
             control = record { mode = a .mode; state = a .switch; openings = a .openings };
             limiters = map (limiterHolding a) (a .monitored);
             clock = a .clock;
-            alarms = record { bits = a .alarms; filter = a .alarmFilter };
+            alarms = record { register = record { bits = a .alarms; filter = a .alarmFilter }; count = a .alarmCount };
             errors = record { bits = a .errors; filter = a .errorFilter };
             emergency = emergencyOf (a .groups) (a .profile);
           };

@@ -10,6 +10,7 @@ use lib.Signed.{leZ}
 use Rattle.base.specs.Numbers.{held}
 use Rattle.base.specs.Tests.{within, among, any, gathered, eachFrom, eqZ}
 use Rattle.registers.specs.Register.{raised, cleared, withFilter}
+use Rattle.registers.specs.Alarms.{alarmsRaised, alarmsCleared, alarmsFiltered}
 use Rattle.events.specs.Line.{Line, line, isLog}
 use Rattle.events.specs.Table.{EventRow, lookup, mask}
 use Rattle.control.specs.declared.Request.{Request}
@@ -187,7 +188,7 @@ clockResult v n =
 abbrev pub reported : Values → EventRow → Change
 reported v r =
     owing
-    (withErrors (withAlarms v (raised (v .alarms) (mask (r .alarm)))) (raised (v .errors) (mask (r .error))))
+    (withErrors (withAlarms v (alarmsRaised (v .alarms) (mask (r .alarm)))) (raised (v .errors) (mask (r .error))))
     (r .log)
     (lineNow v (r .code) ∷ [])
 
@@ -202,12 +203,12 @@ eventResult rows v c = occurring v (lookup rows c)
 
 -- ---- calls 10 and 11
 abbrev pub filterResult : Values → WhichRegister → ℕ → Change
-filterResult v alarms n = owing (withAlarms v (withFilter (v .alarms) n)) 0 []
+filterResult v alarms n = owing (withAlarms v (alarmsFiltered (v .alarms) n)) 0 []
 filterResult v errors n = owing (withErrors v (withFilter (v .errors) n)) 0 []
 
 -- ---- calls 12 and 13: 'ones clear; standard line 11 or 10, mask 0 included'
 abbrev pub clearResult : Values → WhichRegister → ℕ → Change
-clearResult v alarms n = owing (withAlarms v (cleared (v .alarms) n)) 1 (lineNow v 11 ∷ [])
+clearResult v alarms n = owing (withAlarms v (alarmsCleared (v .alarms) n)) 1 (lineNow v 11 ∷ [])
 clearResult v errors n = owing (withErrors v (cleared (v .errors) n)) 1 (lineNow v 10 ∷ [])
 
 -- ---- call 14: '7 | log not 1–3'; 'it then holds one line 255'

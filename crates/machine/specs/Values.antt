@@ -3,6 +3,7 @@ use Prim.Native.Nat.{ℕ}
 use mathlib.Core.List.{List}
 use Rattle.events.specs.Line.{Line}
 use Rattle.registers.specs.declared.Register.{Register}
+use Rattle.registers.specs.declared.Alarms.{Alarms}
 use Rattle.control.specs.declared.Control.{Control}
 use Rattle.limiter.specs.declared.Limiter.{Limiter}
 use Rattle.emergency.specs.declared.Emergency.{Emergency}
@@ -12,7 +13,7 @@ pub record Values : Type 0 where
   pub control : Control
   pub limiters : List Limiter
   pub clock : ℕ
-  pub alarms : Register
+  pub alarms : Alarms
   pub errors : Register
   pub emergency : Emergency
 
@@ -34,8 +35,8 @@ abbrev pub withClock : Values → ℕ → Values
 withClock v t = record { control = v .control; limiters = v .limiters; clock = t; alarms = v .alarms; errors = v .errors; emergency = v .emergency }
 
 -- with another alarm register
-abbrev pub withAlarms : Values → Register → Values
-withAlarms v r = record { control = v .control; limiters = v .limiters; clock = v .clock; alarms = r; errors = v .errors; emergency = v .emergency }
+abbrev pub withAlarms : Values → Alarms → Values
+withAlarms v a = record { control = v .control; limiters = v .limiters; clock = v .clock; alarms = a; errors = v .errors; emergency = v .emergency }
 
 -- with another error register
 abbrev pub withErrors : Values → Register → Values

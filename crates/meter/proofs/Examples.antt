@@ -7,6 +7,8 @@ use Rattle.events.specs.Codes.{besides, mayHold}
 use Rattle.control.specs.Table.{switchTable}
 use Rattle.control.specs.Control.{decision, modeDecision, soundControl}
 use Rattle.limiter.specs.Limiter.{watched, soundLimiter}
+use Rattle.base.specs.Bits.{bit, howMany}
+use Rattle.registers.specs.Alarms.{soundAlarms}
 use Rattle.emergency.specs.Emergency.{soundEmergency}
 use Rattle.logs.specs.Lists.{changed}
 use Rattle.logs.specs.Arrays.{ownCodes, zeroPast, soundLog, soundArrays}
@@ -20,13 +22,15 @@ use Rattle.meter.specs.Examples.{lineNumbersFrom, Examples}
 use Rattle.meter.specs.NearMisses.{NearMisses}
 
 pub examples : Examples
-unfolding lineNumbersFrom recordAfter applied soundMeter soundScalars soundControl soundLimiter soundEmergency soundLogs soundArrays soundLog ownCodes zeroPast
+unfolding lineNumbersFrom recordAfter applied soundMeter soundScalars soundControl soundLimiter soundAlarms bit howMany soundEmergency soundLogs
+    soundArrays soundLog ownCodes zeroPast
     padded flat laid listsOf changed newest among every any below gathered eachFrom builtIn lookup besides mayHold switchTable decision modeDecision
     watched requestResult sampleResult modeResult limitsAnswer limiterResult eventResult scriptResult
 examples = record { lines = refl; log = refl; power = refl; taken = refl; refused = refl; full = refl; dropped = refl }
 
 pub near-misses : NearMisses
-unfolding applied soundMeter soundScalars soundControl soundLimiter soundEmergency soundLogs soundArrays soundLog ownCodes zeroPast among below builtIn lookup besides mayHold
+unfolding applied soundMeter soundScalars soundControl soundLimiter soundAlarms bit howMany soundEmergency soundLogs soundArrays soundLog ownCodes zeroPast
+    among below builtIn lookup besides mayHold
 near-misses =
     record {
       modes = refl;
@@ -37,6 +41,8 @@ near-misses =
       unders = refl;
       runs = refl;
       exceeded-runs = refl;
+      alarm-counts = refl;
+      samples-left = refl;
       standard-codes = refl;
       fraud-codes = refl;
       disconnect-codes = refl;

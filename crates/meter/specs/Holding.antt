@@ -14,7 +14,7 @@ holding a =
             limiters =
                 record { threshold = a .threshold; over = a .over; under = a .under; exceeded = a .exceeded; run = a .run } ∷ [];
             clock = a .clock;
-            alarms = record { bits = a .alarms; filter = a .alarmFilter };
+            alarms = record { register = record { bits = a .alarms; filter = a .alarmFilter }; count = a .alarmCount };
             errors = record { bits = a .errors; filter = a .errorFilter };
             emergency = emergencyOf (a .groups) (a .profile);
           };

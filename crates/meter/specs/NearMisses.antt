@@ -6,12 +6,13 @@ use Prim.Native.Nat.{ℕ, _-_}
 use lib.IntN.{ℤ, pos, negsuc}
 use lib.ListN.{set, replicate}
 use Rattle.events.specs.Table.{builtIn}
+use Rattle.emergency.specs.Emergency.{noEmergency, withFields}
 use Rattle.logs.specs.Arrays.{place}
 use Rattle.calls.specs.declared.Call.the-variants.{SetAlarmFilter}
 use Rattle.calls.specs.Calls.{answerNumber}
 use Rattle.history.specs.Examples.{exampleSettings}
 use Rattle.meter.specs.declared.Meter.{Meter}
-use Rattle.machine.specs.Values.{Values, withControl, withLimiters}
+use Rattle.machine.specs.Values.{Values, withControl, withLimiters, withAlarms, withEmergency}
 use Rattle.steps.specs.Scalars.{scalarsFrom}
 use Rattle.meter.specs.State.{withLogs}
 use Rattle.meter.specs.Sound.{soundMeter}
@@ -53,6 +54,14 @@ ofControl mode switch = ofValues (withControl usual (record { mode = mode; state
 -- of this threshold, Over, Under, Exceeded and Run
 abbrev pub ofLimiter : ℤ → ℕ → ℕ → Bool → ℕ → Meter
 ofLimiter t o u e n = ofValues (withLimiters usual (record { threshold = t; over = o; under = u; exceeded = e; run = n } ∷ []))
+
+-- of these alarms and their filter, with this number of them
+abbrev pub ofAlarms : ℕ → ℕ → ℕ → Meter
+ofAlarms bits filter n = ofValues (withAlarms usual (record { register = record { bits = bits; filter = filter }; count = n }))
+
+-- of a profile that waits for its three samples, so many of them left
+abbrev pub ofLeft : ℕ → Meter
+ofLeft n = ofValues (withEmergency usual (withFields noEmergency 7 (pos 5) 9 3 n 1))
 
 -- a record with these counts, clocks and codes
 abbrev pub ofLogs : List ℕ → List ℕ → List ℕ → Meter
@@ -97,6 +106,10 @@ pub record NearMisses : Type 0 where
   -- 'Run is below Over (not Exceeded) or below Under (Exceeded)'
   pub runs : map (λ n. soundAndAnswer (ofLimiter (pos 3000) 5 9 false n)) (4 ∷ 5 ∷ []) ≡ good ∷ bad ∷ []
   pub exceeded-runs : map (λ n. soundAndAnswer (ofLimiter (pos 3000) 5 9 true n)) (8 ∷ 9 ∷ []) ≡ good ∷ bad ∷ []
+  -- document 02, A6: 'A record or page with another number isn't sound': of bits 0 and 31, the filter having bit 0
+  pub alarm-counts : map (λ n. soundAndAnswer (ofAlarms 2147483649 1 n)) (1 ∷ 2 ∷ 3 ∷ []) ≡ bad ∷ good ∷ bad ∷ []
+  -- document 02, A3: 'samples left equals the duration while waiting'; each clause is in `NearMisses` of emergency
+  pub samples-left : map (λ n. soundAndAnswer (ofLeft n)) (2 ∷ 3 ∷ 4 ∷ []) ≡ bad ∷ good ∷ bad ∷ []
   -- 'each log holds only its own codes'; all 256 are in `HeldCodes` of events
   pub standard-codes : map (λ c. soundAndAnswer (ofLine 1 c)) (2 ∷ 3 ∷ 8 ∷ 9 ∷ 16 ∷ 17 ∷ 40 ∷ 255 ∷ [])
       ≡ good ∷ bad ∷ good ∷ bad ∷ good ∷ bad ∷ bad ∷ good ∷ []

@@ -11,6 +11,7 @@ use control::Control;
 use emergency::Emergency;
 use limiter::Limiter;
 use logs::Logs;
+use registers::Alarms;
 use registers::Register;
 
 // The record of these settings, which are not judged here.
@@ -31,7 +32,10 @@ fn with_settings(mode: u8, threshold: i32, over: u32, under: u32, clock: u32) ->
             run: 0,
         },
         clock,
-        alarms: Register { bits: 0, filter: 0 },
+        alarms: Alarms {
+            register: Register { bits: 0, filter: 0 },
+            count: 0,
+        },
         errors: Register { bits: 0, filter: 0 },
         logs: Logs {
             counts: [0u8; 3],

@@ -1,8 +1,11 @@
 -- The numbers of a sound record whose numbers are values of their types fit the page's bytes.
 use Rattle.page.proofs.Common.{_≡_, refl, Bool, true, false, _&&_, cond, List, ℕ, zero, suc, _<_, _≤_, _^_, arith, T, leb, ltb, ℤ, pos, negsuc, natAbs}
 use Rattle.page.proofs.Common.{nonNeg, leZ, getD, leb-true, ltb-true, and-left, and-right, AllHold, EventRow, isThreshold, isDuration, awaited}
-use Rattle.page.proofs.Common.{soundSettings, soundLimiter, Sized, soundLogs, Word, Meter, soundMeter, soundScalars}
+use Rattle.page.proofs.Common.{soundSettings, soundLimiter, Sized, soundLogs, Word, Meter, scalarsOf, soundMeter, soundScalars}
 use Rattle.registers.specs.declared.Register.{Register}
+use Rattle.registers.specs.declared.Alarms.{Alarms}
+use Rattle.registers.specs.Alarms.{soundAlarms}
+use Rattle.registers.proofs.Counts.{sound-most}
 use Rattle.control.specs.declared.Control.{Control}
 use Rattle.control.specs.Control.{soundControl}
 use Rattle.limiter.specs.declared.Limiter.{Limiter}
@@ -12,7 +15,9 @@ use Rattle.emergency.specs.declared.Emergency.{Emergency}
 use Rattle.emergency.specs.Emergency.{inRanges, soundEmergency, Eight}
 use Rattle.emergency.proofs.Kept.{Which, empty, waits, runs, which, profile-part, groups-part}
 use Rattle.logs.specs.declared.Logs.{Logs}
-use Rattle.page.specs.Layout.{controlArea, limiterArea, registerArea, lineFormat, logArea, logsArea, storedLines, storedNumbers, emergencyArea, layout}
+use Rattle.steps.proofs.Sound.{control-sound, limiter-sound, alarms-sound, emergency-sound}
+use Rattle.page.specs.Layout.{controlArea, limiterArea, registerArea, alarmsArea, lineFormat, logArea, logsArea, storedLines, storedNumbers}
+use Rattle.page.specs.Layout.{emergencyArea, layout}
 use Rattle.page.specs.Laws.{Typed}
 use Rattle.page.proofs.Lines.{length-lines}
 
@@ -52,6 +57,9 @@ limiter-held l e =
 -- ---- what the types bound
 register-held : (r : Register) → Word (r .bits) → Word (r .filter) → registerArea .Holds r
 register-held r bits filter = ((omega arith, omega arith), tt)
+
+alarms-held : (a : Alarms) → soundAlarms a ≡ true → Word (a .register .bits) → Word (a .register .filter) → alarmsArea .Holds a
+alarms-held a e bits filter = ((register-held (a .register) bits filter, omega (arith, sound-most a e)), tt)
 
 lines-held : (k at : ℕ) (ts cs : List ℕ) → ((i : ℕ) → getD ts i 0 < 256 ^ 4) → ((i : ℕ) → getD cs i 0 < 256 ^ 1)
     → AllHold lineFormat (storedLines k at ts cs)
@@ -106,26 +114,22 @@ module _ (e : Emergency) (sound : soundEmergency e ≡ true) (id : e .id < 65536
           (omega (arith, most r, leb-true (e .left) (e .duration) (and-right (leb 1 (e .left)) (leb (e .left) (e .duration)) l))) (omega (arith, s))
 
 pub meter-held : (rows : List EventRow) (m : Meter) → Typed m → soundMeter rows m ≡ true → layout .Holds m
-unfolding layout soundMeter soundScalars
+unfolding layout soundMeter
 meter-held rows m t e =
-    let scalars = and-left (soundControl (m .control) && (soundLimiter (m .limiter) && soundEmergency (m .emergency))) (soundLogs rows (m .logs)) e in
-    let control = and-left (soundControl (m .control)) (soundLimiter (m .limiter) && soundEmergency (m .emergency)) scalars in
-    let rest = and-right (soundControl (m .control)) (soundLimiter (m .limiter) && soundEmergency (m .emergency)) scalars in
-    let limiter = and-left (soundLimiter (m .limiter)) (soundEmergency (m .emergency)) rest in
-    let emergency = and-right (soundLimiter (m .limiter)) (soundEmergency (m .emergency)) rest in
+    let scalars = and-left (soundScalars (scalarsOf m)) (soundLogs rows (m .logs)) e in
     let logs = logs-held (m .logs) (t .counts) (λ i. omega (arith, t .clocks i)) (t .codes) (t .logs) in
     let clock : m .clock < 256 ^ 4 = omega (arith, t .clock) in (
       (
-        control-held (m .control) control (t .openings),
+        control-held (m .control) (control-sound (scalarsOf m) scalars) (t .openings),
         (
-          limiter-held (m .limiter) limiter,
+          limiter-held (m .limiter) (limiter-sound (scalarsOf m) scalars),
           (
             clock,
             (
-              register-held (m .alarms) (t .alarms) (t .alarmFilter),
+              alarms-held (m .alarms) (alarms-sound (scalarsOf m) scalars) (t .alarms) (t .alarmFilter),
               (
                 register-held (m .errors) (t .errors) (t .errorFilter),
-                (logs, emergency-held (m .emergency) emergency (t .id) (t .activation) (t .eight) (t .ids)),
+                (logs, emergency-held (m .emergency) (emergency-sound (scalarsOf m) scalars) (t .id) (t .activation) (t .eight) (t .ids)),
               ),
             ),
           ),

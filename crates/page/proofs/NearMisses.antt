@@ -1,6 +1,8 @@
 -- The near misses of reader and writer, each by computing it.
 use Rattle.page.proofs.Common.{refl, flatMap, be, among, below, numAt, builtIn, lookup, soundLimiter, ownCodes, zeroPast, soundLog, soundArrays, padded}
 use Rattle.page.proofs.Common.{flat, laid, soundLogs, soundMeter, soundScalars}
+use Rattle.base.specs.Bits.{bit, howMany}
+use Rattle.registers.specs.Alarms.{soundAlarms}
 use Rattle.emergency.specs.Emergency.{soundEmergency}
 use Rattle.events.specs.Codes.{besides, mayHold}
 use Rattle.control.specs.Control.{soundControl}
@@ -9,7 +11,7 @@ use Rattle.page.specs.NearMisses.{NearMisses}
 
 pub near-misses : NearMisses
 unfolding readOf hasPairs holdsSound layout ofAreas writeAnswer numAt flatMap soundMeter soundScalars soundControl soundLimiter soundLogs soundArrays
-    soundEmergency be soundLog ownCodes zeroPast padded flat laid among below builtIn lookup besides mayHold
+    soundAlarms bit howMany soundEmergency be soundLog ownCodes zeroPast padded flat laid among below builtIn lookup besides mayHold
 near-misses =
     record {
       unchanged = refl;
@@ -20,6 +22,7 @@ near-misses =
       thresholds = refl;
       exceeded = refl;
       runs = refl;
+      alarm-counts = refl;
       count = refl;
       counts = refl;
       codes = refl;

@@ -16,7 +16,8 @@ use Rattle.meter.specs.Settings.{Settings}
 use Rattle.meter.specs.Holding.{holding}
 use Rattle.meter.proofs.Values.{logs-sound}
 use Rattle.meter.proofs.Simulates.{account-sound}
-use Rattle.page.specs.Layout.{controlArea, limiterArea, clockArea, registerArea, lineFormat, logArea, logsArea, areasOf, ofAreas, layout, directory}
+use Rattle.page.specs.Layout.{controlArea, limiterArea, clockArea, alarmsArea, registerArea, lineFormat, logArea, logsArea, areasOf, ofAreas, layout}
+use Rattle.page.specs.Layout.{directory}
 use Rattle.page.specs.Layout.{storedNumbers, emergencyArea, pageOf}
 use Rattle.page.specs.AccountPage.{printedPairs, fields, fieldBytes, logBytes, groupBytes, emergencyBytes, accountPage}
 use Rattle.page.proofs.Lines.{encs-append}
@@ -97,7 +98,7 @@ module _ (a : Account) where
       ≡ controlArea .enc (holding a .values .control)
       ++ (limiterArea .enc (scalarsOf (recordOf (holding a)) .limiter)
       ++ (clockArea .enc (a .clock)
-      ++ (registerArea .enc (holding a .values .alarms)
+      ++ (alarmsArea .enc (holding a .values .alarms)
       ++ (registerArea .enc (holding a .values .errors) ++ r))))
   unfolding flatMap
   fields-written r = simp (append-assoc, append-nil)

@@ -1,12 +1,13 @@
 -- The numbers of an account are values of their types: those that are held at 32 bits, and those that calls bring.
-use Rattle.page.proofs.Common.{_≡_, refl, ap, _∙_, Bool, true, false, _&&_, cond, List, [], _∷_, _++_, map, reverse, ℕ, zero, suc, _-_, _<_, _≤_, _^_, arith, leb, ltb, length, getD, replicate}
+use Rattle.page.proofs.Common.{_≡_, refl, ap, _∙_, Bool, true, false, _&&_, cond, List, [], _∷_, _++_, map, reverse, ℕ, zero, suc, _-_, _<_, _≤_}
+use Rattle.page.proofs.Common.{_^_, arith, leb, ltb, length, getD, replicate}
 use Rattle.page.proofs.Common.{leb-true, ltb-true, every, and-left, and-right, every-first, every-rest, pow-pos, Line, EventRow, lawful, lineClock}
-use Rattle.page.proofs.Common.{lineCode, soundLimiter, padded, flat, laid, Word, AllInRange, recordOf}
+use Rattle.page.proofs.Common.{lineCode, padded, flat, laid, Word, AllInRange, recordOf}
 use mathlib.Core.Option.{Option, none, some}
 use Rattle.base.proofs.Bits.{number-lt}
-use Rattle.control.specs.Control.{soundControl}
-use Rattle.emergency.specs.Emergency.{padded as paddedIds, soundEmergency}
+use Rattle.emergency.specs.Emergency.{padded as paddedIds}
 use Rattle.emergency.proofs.Kept.{groups-part, padded-eight}
+use Rattle.logs.specs.Lists.{soundLists}
 use Rattle.logs.proofs.Places.{Short, none as noLog, more as moreLogs}
 use Rattle.logs.proofs.Kept.{lists-short}
 use Rattle.calls.specs.declared.Call.{Call}
@@ -21,6 +22,7 @@ use Rattle.machine.specs.Sound.{soundValues, soundState}
 use Rattle.machine.specs.Holding.{emergencyOf}
 use Rattle.machine.specs.Ranges.{isId}
 use Rattle.machine.proofs.Effects.{AllProper}
+use Rattle.machine.proofs.Preserved.{emergency-sound}
 use Rattle.machine.proofs.Ranges.{filter-word, Kept, profile-range, groups-range}
 use Rattle.machine.proofs.Fits.{fits, log-fits}
 use Rattle.machine.proofs.Simulates.{all-proper}
@@ -83,13 +85,10 @@ count-held ids (active w left) = refl
 
 -- groups of sound values are at most eight
 pub groups-most : (rows : List EventRow) (a : Account) → soundState rows (holding a) ≡ true → length (a .groups) ≤ 8
-unfolding soundState soundValues
+unfolding soundState
 groups-most rows a e =
     let v = holding a .values in
-    let control = soundControl (v .control) in
-    let limiters = every soundLimiter (v .limiters) in
-    let rest = and-right control (limiters && soundEmergency (v .emergency)) (and-left (control && (limiters && soundEmergency (v .emergency))) _ e) in
-    let groups = groups-part (v .emergency) (and-right limiters (soundEmergency (v .emergency)) rest) in
+    let groups = groups-part (v .emergency) (emergency-sound v (and-left (soundValues v) (soundLists rows (a .logs)) e)) in
     omega (arith, leb-true (v .emergency .count) 8 (and-left (leb (v .emergency .count) 8) _ groups), count-held (a .groups) (a .profile))
 
 -- the ids, whatever the profile

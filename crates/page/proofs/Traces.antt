@@ -1,5 +1,6 @@
 -- Demand 3: the record after a list holds the account, its numbers fit the page's bytes, and a page gives back the record that it was written from.
-use Rattle.page.proofs.Common.{_≡_, refl, sym, ap, _∙_, true, cond, List, ℕ, _≤_, arith, eqb, length, replicate, le-leb, Accepted, Meter, firstLimiter, stateOf}
+use Rattle.page.proofs.Common.{_≡_, refl, sym, ap, _∙_, true, cond, List, ℕ, _≤_, arith, eqb, length, replicate, le-leb, Accepted, Meter}
+use Rattle.page.proofs.Common.{firstLimiter, stateOf}
 use Rattle.page.proofs.Common.{recordOf, soundMeter}
 use Rattle.emergency.specs.declared.Emergency.{Emergency}
 use Rattle.emergency.specs.Emergency.{groupsIn}
@@ -52,8 +53,9 @@ named v =
       exceeded = firstLimiter (v .values .limiters) .exceeded;
       run = firstLimiter (v .values .limiters) .run;
       clock = v .values .clock;
-      alarms = v .values .alarms .bits;
-      alarmFilter = v .values .alarms .filter;
+      alarms = v .values .alarms .register .bits;
+      alarmFilter = v .values .alarms .register .filter;
+      alarmCount = v .values .alarms .count;
       errors = v .values .errors .bits;
       errorFilter = v .values .errors .filter;
       logs = v .logs;
@@ -76,6 +78,7 @@ named-back a =
       clock = a .clock;
       alarms = a .alarms;
       alarmFilter = a .alarmFilter;
+      alarmCount = a .alarmCount;
       errors = a .errors;
       errorFilter = a .errorFilter;
       logs = a .logs;

@@ -1,5 +1,5 @@
--- The page of an account, as document 01's section 'The page' prints it, '558 bytes, big-endian', with the ninth area of document 02, A3. Nothing here
--- speaks of the record that the code keeps, or of how the code writes it.
+-- The page of an account, as document 01's section 'The page' prints it, '558 bytes, big-endian', with the ninth area of document 02, A3, and
+-- the byte of its A6. Nothing here speaks of the record that the code keeps, or of how the code writes it.
 use mathlib.Core.Bool.{cond}
 use mathlib.Core.List.{List, [], _∷_, _++_, flatMap}
 use Prim.Native.Nat.{ℕ, _-_, _*_}
@@ -13,18 +13,19 @@ use Rattle.history.specs.OnePhase.{Account}
 
 -- 'First eight pairs of offset and length (16 bits each), sorted by offset: (32,6) (38,17) (55,4) (59,8) (67,8) (75,161) (236,161) (397,161).' Document
 -- 02, A3: 'A ninth area of 36 bytes, behind the logs and last in the directory, makes the page 598, its pair included, so every earlier offset grows
--- by 4'
+-- by 4'; A6: 'one byte at the end of the alarms area'
 abbrev pub printedPairs : List (ℕ × ℕ)
-printedPairs = (36, 6) ∷ (42, 17) ∷ (59, 4) ∷ (63, 8) ∷ (71, 8) ∷ (79, 161) ∷ (240, 161) ∷ (401, 161) ∷ (562, 36) ∷ []
+printedPairs = (36, 6) ∷ (42, 17) ∷ (59, 4) ∷ (63, 9) ∷ (72, 8) ∷ (80, 161) ∷ (241, 161) ∷ (402, 161) ∷ (563, 36) ∷ []
 
 -- 'Areas: mode 1 byte, switch 1, openings 4; threshold 4, Over 4, Under 4, Exceeded 1 (0 or 1), Run 4; clock; alarms and their filter; errors and
--- theirs': each with its bytes. (The threshold is not negative.)
+-- theirs': each with its bytes. (The threshold is not negative.) Document 02, A6: how many alarms stand, 'one byte at the end of
+-- the alarms area'
 abbrev pub fields : Account → List (ℕ × ℕ)
 fields a =
     (a .mode, 1) ∷ (a .switch, 1) ∷ (a .openings, 4)
     ∷ (natAbs (a .threshold), 4) ∷ (a .over, 4) ∷ (a .under, 4) ∷ (cond (a .exceeded) 1 0, 1) ∷ (a .run, 4)
     ∷ (a .clock, 4)
-    ∷ (a .alarms, 4) ∷ (a .alarmFilter, 4)
+    ∷ (a .alarms, 4) ∷ (a .alarmFilter, 4) ∷ (a .alarmCount, 1)
     ∷ (a .errors, 4) ∷ (a .errorFilter, 4)
     ∷ []
 
@@ -59,9 +60,9 @@ groupBytes ids = be 1 (length ids) ++ (flatMap (be 2) ids ++ replicate ((8 - len
 unfoldable pub emergencyBytes : List ℕ → ProfileState → List ℕ
 emergencyBytes ids profile = profileBytes profile ++ groupBytes ids
 
--- document 02, A3: 'makes the page 598'
+-- document 02, A6: 'the page becomes 599 bytes'
 abbrev pub pageLength : ℕ
-pageLength = 598
+pageLength = 599
 
 -- the page: pairs, fields, logs, and the ninth area
 unfoldable pub accountPage : Account → List ℕ

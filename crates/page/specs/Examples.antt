@@ -95,17 +95,17 @@ noLines = replicate 161 0
 -- example log'
 abbrev pub workedBytes : List ℕ
 workedBytes =
-    -- (36,6) (42,17) (59,4) (63,8) (71,8) (79,161) (240,161) (401,161) (562,36)
-    0 ∷ 36 ∷ 0 ∷ 6 ∷ 0 ∷ 42 ∷ 0 ∷ 17 ∷ 0 ∷ 59 ∷ 0 ∷ 4 ∷ 0 ∷ 63 ∷ 0 ∷ 8 ∷ 0 ∷ 71 ∷ 0 ∷ 8 ∷ 0 ∷ 79 ∷ 0 ∷ 161 ∷ 0 ∷ 240 ∷ 0 ∷ 161
-    ∷ 1 ∷ 145 ∷ 0 ∷ 161 ∷ 2 ∷ 50 ∷ 0 ∷ 36
+    -- (36,6) (42,17) (59,4) (63,9) (72,8) (80,161) (241,161) (402,161) (563,36)
+    0 ∷ 36 ∷ 0 ∷ 6 ∷ 0 ∷ 42 ∷ 0 ∷ 17 ∷ 0 ∷ 59 ∷ 0 ∷ 4 ∷ 0 ∷ 63 ∷ 0 ∷ 9 ∷ 0 ∷ 72 ∷ 0 ∷ 8 ∷ 0 ∷ 80 ∷ 0 ∷ 161 ∷ 0 ∷ 241 ∷ 0 ∷ 161
+    ∷ 1 ∷ 146 ∷ 0 ∷ 161 ∷ 2 ∷ 51 ∷ 0 ∷ 36
     -- mode 0, switch 1, two openings
     ∷ 0 ∷ 1 ∷ 0 ∷ 0 ∷ 0 ∷ 2
     -- threshold 3000, Over 2, Under 3, not Exceeded, Run 0
     ∷ 0 ∷ 0 ∷ 11 ∷ 184 ∷ 0 ∷ 0 ∷ 0 ∷ 2 ∷ 0 ∷ 0 ∷ 0 ∷ 3 ∷ 0 ∷ 0 ∷ 0 ∷ 0 ∷ 0
     -- clock 1006
     ∷ 0 ∷ 0 ∷ 3 ∷ 238
-    -- alarms and errors, and their filters
-    ∷ 0 ∷ 0 ∷ 0 ∷ 0 ∷ 0 ∷ 0 ∷ 0 ∷ 0 ∷ 0 ∷ 0 ∷ 0 ∷ 0 ∷ 0 ∷ 0 ∷ 0 ∷ 0
+    -- alarms, their filter and number; errors and their filter
+    ∷ 0 ∷ 0 ∷ 0 ∷ 0 ∷ 0 ∷ 0 ∷ 0 ∷ 0 ∷ 0 ∷ 0 ∷ 0 ∷ 0 ∷ 0 ∷ 0 ∷ 0 ∷ 0 ∷ 0
     ∷ (noLines ++ (noLines ++ (
     6 ∷ 0 ∷ 0 ∷ 3 ∷ 235 ∷ 65 ∷ 0 ∷ 0 ∷ 3 ∷ 235 ∷ 64 ∷ 0 ∷ 0 ∷ 3 ∷ 235 ∷ 61
     ∷ 0 ∷ 0 ∷ 3 ∷ 238 ∷ 62 ∷ 0 ∷ 0 ∷ 3 ∷ 238 ∷ 59 ∷ 0 ∷ 0 ∷ 3 ∷ 238 ∷ 63
@@ -132,6 +132,7 @@ distinct =
       clock = 4294967295;
       alarms = 8451;
       alarmFilter = 4096;
+      alarmCount = 4;
       errors = 7937;
       errorFilter = 2147483648;
       logs = (line 1 4 ∷ line 2 5 ∷ []) ∷ (line 3 40 ∷ []) ∷ (line 4 65 ∷ line 4 64 ∷ line 5 255 ∷ []) ∷ [];
@@ -143,16 +144,16 @@ distinct =
 abbrev pub distinctBytes : List ℕ
 distinctBytes =
     -- the pairs
-    0 ∷ 36 ∷ 0 ∷ 6 ∷ 0 ∷ 42 ∷ 0 ∷ 17 ∷ 0 ∷ 59 ∷ 0 ∷ 4 ∷ 0 ∷ 63 ∷ 0 ∷ 8 ∷ 0 ∷ 71 ∷ 0 ∷ 8 ∷ 0 ∷ 79 ∷ 0 ∷ 161 ∷ 0 ∷ 240 ∷ 0 ∷ 161
-    ∷ 1 ∷ 145 ∷ 0 ∷ 161 ∷ 2 ∷ 50 ∷ 0 ∷ 36
+    0 ∷ 36 ∷ 0 ∷ 6 ∷ 0 ∷ 42 ∷ 0 ∷ 17 ∷ 0 ∷ 59 ∷ 0 ∷ 4 ∷ 0 ∷ 63 ∷ 0 ∷ 9 ∷ 0 ∷ 72 ∷ 0 ∷ 8 ∷ 0 ∷ 80 ∷ 0 ∷ 161 ∷ 0 ∷ 241 ∷ 0 ∷ 161
+    ∷ 1 ∷ 146 ∷ 0 ∷ 161 ∷ 2 ∷ 51 ∷ 0 ∷ 36
     -- mode 6, switch 2, openings
     ∷ 6 ∷ 2 ∷ 1 ∷ 2 ∷ 3 ∷ 4
     -- threshold, Over 86,400, Under 259, Exceeded, Run 258
     ∷ 127 ∷ 255 ∷ 255 ∷ 255 ∷ 0 ∷ 1 ∷ 81 ∷ 128 ∷ 0 ∷ 0 ∷ 1 ∷ 3 ∷ 1 ∷ 0 ∷ 0 ∷ 1 ∷ 2
     -- clock
     ∷ 255 ∷ 255 ∷ 255 ∷ 255
-    -- alarms and their filter
-    ∷ 0 ∷ 0 ∷ 33 ∷ 3 ∷ 0 ∷ 0 ∷ 16 ∷ 0
+    -- alarms, their filter and number
+    ∷ 0 ∷ 0 ∷ 33 ∷ 3 ∷ 0 ∷ 0 ∷ 16 ∷ 0 ∷ 4
     -- errors and theirs
     ∷ 0 ∷ 0 ∷ 31 ∷ 1 ∷ 128 ∷ 0 ∷ 0 ∷ 0
     -- log 1: two lines

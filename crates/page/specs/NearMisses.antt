@@ -23,18 +23,22 @@ readNumber s = answerNumber (readOf builtIn s .answer)
 abbrev pub readWith : ℕ → ℕ → ℕ
 readWith i v = readNumber (set workedBytes i v)
 
+-- to its page with alarm bits 0 and 31, a filter that has bit 0, and this count
+abbrev pub readAlarms : ℕ → ℕ
+readAlarms n = readNumber (take 63 workedBytes ++ (128 ∷ 0 ∷ 0 ∷ 1 ∷ 0 ∷ 0 ∷ 0 ∷ 1 ∷ n ∷ drop 72 workedBytes))
+
 -- to its page with three logs of 32 lines, and these counts
 abbrev pub readCounts : ℕ → ℕ → ℕ → ℕ
 readCounts a b c =
     let lines : List ℕ = flatMap (λ code. 0 ∷ 0 ∷ 0 ∷ 1 ∷ code ∷ []) (replicate 32 255) in
-    readNumber (take 79 workedBytes ++ (a ∷ lines ++ (b ∷ lines ++ (c ∷ lines ++ drop 562 workedBytes))))
+    readNumber (take 80 workedBytes ++ (a ∷ lines ++ (b ∷ lines ++ (c ∷ lines ++ drop 563 workedBytes))))
 
 -- to its page with an emergency profile of id 7 and activation 9, which has these threshold, duration, samples left and state, and with these groups:
 -- a count and ids
 abbrev pub readEmergency : ℕ → ℕ → ℕ → ℕ → ℕ → List ℕ → ℕ
 readEmergency threshold duration left state count ids =
     let padded : List ℕ = ids ++ replicate (8 - length ids) 0 in
-    readNumber (take 562 workedBytes ++ (be 2 7 ++ (be 4 threshold ++ (be 4 9 ++ (be 4 duration ++ (be 4 left ++ (be 1 state ++ (be 1 count
+    readNumber (take 563 workedBytes ++ (be 2 7 ++ (be 4 threshold ++ (be 4 9 ++ (be 4 duration ++ (be 4 left ++ (be 1 state ++ (be 1 count
     ++ flatMap (be 2) padded))))))))
 
 -- what the writer answers for a record and a buffer of n bytes
@@ -45,7 +49,7 @@ writeNumber m n = answerNumber (writeAnswer builtIn m (replicate n 0))
 pub record NearMisses : Type 0 where
   pub unchanged : readNumber workedBytes ≡ 0
   -- 'reader | 9 | length not 558'; document 02, A3: '8 and 9 go by the page's present length'
-  pub lengths : map readNumber (take 597 workedBytes ∷ (workedBytes ++ (0 ∷ [])) ∷ []) ≡ 9 ∷ 9 ∷ []
+  pub lengths : map readNumber (take 598 workedBytes ∷ (workedBytes ++ (0 ∷ [])) ∷ []) ≡ 9 ∷ 9 ∷ []
   -- 'reader | 10 | a pair differs': any of their bytes one more
   pub pairs-bytes : below start (λ i. eqb (readWith i (getD workedBytes i 0 + 1)) 10) ≡ true
   -- 'reader | 11 | the record would not be sound': the mode ..
@@ -58,18 +62,21 @@ pub record NearMisses : Type 0 where
   pub exceeded : map (readWith 54) (0 ∷ 1 ∷ 2 ∷ []) ≡ 0 ∷ 0 ∷ 11 ∷ []
   -- .. Run, below Over ..
   pub runs : map (readWith 58) (1 ∷ 2 ∷ []) ≡ 0 ∷ 11 ∷ []
+  -- document 02, A6: 'A record or page with another number isn't sound': of no alarm; of two, with a filter that would hide one of them ..
+  pub alarm-counts :
+      map (readWith 71) (0 ∷ 1 ∷ 32 ∷ 255 ∷ []) ++ map readAlarms (0 ∷ 1 ∷ 2 ∷ 3 ∷ []) ≡ 0 ∷ 11 ∷ 11 ∷ 11 ∷ 11 ∷ 11 ∷ 0 ∷ 11 ∷ []
   -- .. log 3's count, below its lines and above them ..
-  pub count : map (readWith 401) (5 ∷ 6 ∷ 7 ∷ []) ≡ 11 ∷ 0 ∷ 11 ∷ []
+  pub count : map (readWith 402) (5 ∷ 6 ∷ 7 ∷ []) ≡ 11 ∷ 0 ∷ 11 ∷ []
   -- .. each log's, of full logs ..
   pub counts : readCounts 32 32 32 ∷ readCounts 33 32 32 ∷ readCounts 32 33 32 ∷ readCounts 32 32 33 ∷ [] ≡ 0 ∷ 11 ∷ 11 ∷ 11 ∷ []
   -- .. the code of log 3's first line ..
-  pub codes : map (readWith 406) (58 ∷ 59 ∷ 69 ∷ 70 ∷ []) ≡ 11 ∷ 0 ∷ 0 ∷ 11 ∷ []
+  pub codes : map (readWith 407) (58 ∷ 59 ∷ 69 ∷ 70 ∷ []) ≡ 11 ∷ 0 ∷ 0 ∷ 11 ∷ []
   -- .. the first and the last byte past each log's lines ..
-  pub past : map (λ i. readWith i 1) (80 ∷ 239 ∷ 241 ∷ 400 ∷ 432 ∷ 561 ∷ []) ≡ replicate 6 11
+  pub past : map (λ i. readWith i 1) (81 ∷ 240 ∷ 242 ∷ 401 ∷ 433 ∷ 562 ∷ []) ≡ replicate 6 11
   -- document 02, A3: 'with state 0 the first five are zero': any of their bytes ..
-  pub no-profile : below 18 (λ i. eqb (readWith (562 + i) 1) 11) ≡ true
+  pub no-profile : below 18 (λ i. eqb (readWith (563 + i) 1) 11) ≡ true
   -- 'state is at most 2': here 1 and 2 stand beside zeros, 3 beside a profile ..
-  pub states : map (readWith 580) (0 ∷ 1 ∷ 2 ∷ []) ++ map (λ s. readEmergency 5 3 3 s 0 []) (0 ∷ 1 ∷ 2 ∷ 3 ∷ []) ≡ 0 ∷ 11 ∷ 11 ∷ 11 ∷ 0 ∷ 0 ∷ 11 ∷ []
+  pub states : map (readWith 581) (0 ∷ 1 ∷ 2 ∷ []) ++ map (λ s. readEmergency 5 3 3 s 0 []) (0 ∷ 1 ∷ 2 ∷ 3 ∷ []) ≡ 0 ∷ 11 ∷ 11 ∷ 11 ∷ 0 ∷ 0 ∷ 11 ∷ []
   -- 'samples left equals the duration while waiting' ..
   pub waiting : map (λ n. readEmergency 5 3 n 1 0 []) (2 ∷ 3 ∷ 4 ∷ []) ≡ 11 ∷ 0 ∷ 11 ∷ []
   -- 'and is 1 to the duration while active' ..
@@ -78,9 +85,9 @@ pub record NearMisses : Type 0 where
   pub durations : map (λ n. readEmergency 5 n n 1 0 []) (0 ∷ 1 ∷ 604800 ∷ 604801 ∷ []) ≡ 11 ∷ 0 ∷ 0 ∷ 11 ∷ []
   pub emergency-thresholds : map (λ n. readEmergency n 3 1 2 0 []) (0 ∷ 2147483647 ∷ 2147483648 ∷ []) ≡ 0 ∷ 0 ∷ 11 ∷ []
   -- 'count at most 8' ..
-  pub group-counts : map (readWith 581) (8 ∷ 9 ∷ []) ≡ 0 ∷ 11 ∷ []
+  pub group-counts : map (readWith 582) (8 ∷ 9 ∷ []) ≡ 0 ∷ 11 ∷ []
   -- 'ids past the count are zero': the first id past it, and the last
-  pub ids-past : map (λ n. readEmergency 5 3 3 1 n (7 ∷ 65535 ∷ [])) (1 ∷ 2 ∷ []) ++ map (λ i. readWith i 1) (582 ∷ 597 ∷ []) ≡ 11 ∷ 0 ∷ 11 ∷ 11 ∷ []
-  -- 'record | 12 | not sound; .. the writer', then 'writer | 8 | buffer under 558 bytes', now 598
-  pub unsound-written : map (writeNumber (ofControl 7 1)) (597 ∷ 598 ∷ []) ≡ 12 ∷ 12 ∷ []
-  pub buffers : map (writeNumber exampleMeter) (597 ∷ 598 ∷ []) ≡ 8 ∷ 0 ∷ []
+  pub ids-past : map (λ n. readEmergency 5 3 3 1 n (7 ∷ 65535 ∷ [])) (1 ∷ 2 ∷ []) ++ map (λ i. readWith i 1) (583 ∷ 598 ∷ []) ≡ 11 ∷ 0 ∷ 11 ∷ 11 ∷ []
+  -- 'record | 12 | not sound; .. the writer', then 'writer | 8 | buffer under 558 bytes', now 599
+  pub unsound-written : map (writeNumber (ofControl 7 1)) (598 ∷ 599 ∷ []) ≡ 12 ∷ 12 ∷ []
+  pub buffers : map (writeNumber exampleMeter) (598 ∷ 599 ∷ []) ≡ 8 ∷ 0 ∷ []

@@ -39,7 +39,7 @@ fn keep(outcome: Outcome, page: &mut [u8]) -> u32
     writer::write_page(outcome.meter, page).number() as u32
 }
 
-// Writes the page of a fresh meter into the first 598 bytes: 1 for a mode above 6, 4 if the threshold
+// Writes the page of a fresh meter into the first 599 bytes: 1 for a mode above 6, 4 if the threshold
 // is negative, 5 if a duration is not 1 to 86,400, 8 if there are fewer bytes.
 #[no_mangle]
 pub extern "C" fn pillar_fresh(
@@ -109,7 +109,7 @@ pub extern "C" fn pillar_call(
 }
 
 // Runs a whole list of 21-byte records, the first of which is fresh, and writes the page of its
-// history into the first 598 bytes: 100 if there is no byte, 101 if the first record is not fresh,
+// history into the first 599 bytes: 100 if there is no byte, 101 if the first record is not fresh,
 // 102 if a record is cut short; 1, 4, 5 and 8 as `pillar_fresh`.
 #[no_mangle]
 pub extern "C" fn pillar_replay(records: &[u8], page: &mut [u8]) -> u32
@@ -118,7 +118,7 @@ pub extern "C" fn pillar_replay(records: &[u8], page: &mut [u8]) -> u32
     replayed_number(replay::replay(records, page))
 }
 
-// Whether `pillar_call` can read a page: 9 if it is not of 598 bytes, 10 if a pair differs, 11 if its
+// Whether `pillar_call` can read a page: 9 if it is not of 599 bytes, 10 if a pair differs, 11 if its
 // record would not be sound.
 #[no_mangle]
 pub extern "C" fn pillar_check(page: &[u8]) -> u32

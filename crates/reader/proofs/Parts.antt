@@ -5,7 +5,7 @@ use Rattle.meter.proofs.Tail.{sound-is}
 use Rattle.page.specs.Layout.{logsArea, layout, meterIn}
 
 module _ (s : List ℕ) {x : Scalars} {counts clocks codes : List ℕ} (scalars : x ≡ scalarsOf (meterIn s))
-    (ks : counts ≡ logsArea .dec s 79 .counts) (ts : clocks ≡ logsArea .dec s 79 .clocks) (cs : codes ≡ logsArea .dec s 79 .codes) where
+    (ks : counts ≡ logsArea .dec s 80 .counts) (ts : clocks ≡ logsArea .dec s 80 .clocks) (cs : codes ≡ logsArea .dec s 80 .codes) where
   pub parts-make : withLogs x counts clocks codes ≡ meterIn s
   unfolding layout
   parts-make = λ i. withLogs (scalars i) (ks i) (ts i) (cs i)

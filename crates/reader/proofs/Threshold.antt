@@ -3,12 +3,12 @@ use Rattle.page.proofs.Common.{_≡_, refl, sym, _∙_, Bool, true, false, _&&_
 use Rattle.page.proofs.Common.{numAt, builtIn, isThreshold, isDuration, awaited, soundSettings, soundLimiter, soundLogs, Meter, scalarsOf, soundMeter}
 use Rattle.page.proofs.Common.{soundScalars}
 use Rattle.base.specs.Tests.{within}
-use Rattle.control.specs.Control.{soundControl}
 use Rattle.emergency.specs.declared.Emergency.{Emergency}
 use Rattle.emergency.specs.Emergency.{inRanges, soundEmergency}
 use Rattle.emergency.proofs.Kept.{Which, empty, waits, runs, which, profile-part}
 use Rattle.limiter.specs.declared.Limiter.{Limiter}
 use Rattle.steps.specs.declared.Scalars.{Scalars}
+use Rattle.steps.proofs.Sound.{limiter-sound, emergency-sound}
 use Rattle.page.specs.Layout.{layout, start, meterIn, isRecord, holdsSound}
 
 -- a sound limiter has a threshold of its range
@@ -36,13 +36,11 @@ abbrev thresholds : Meter → Bool
 thresholds m = isThreshold (m .limiter .threshold) && isThreshold (m .emergency .threshold)
 
 thresholds-sound : (m : Meter) → soundMeter builtIn m ≡ true → thresholds m ≡ true
-unfolding soundMeter soundScalars
+unfolding soundMeter
 thresholds-sound m e =
-    let l = m .limiter in
-    let p = m .emergency in
-    let scalars = and-left (soundControl (m .control) && (soundLimiter l && soundEmergency p)) (soundLogs builtIn (m .logs)) e in
-    let rest = and-right (soundControl (m .control)) (soundLimiter l && soundEmergency p) scalars in
-    rw (limiter-threshold l (and-left (soundLimiter l) (soundEmergency p) rest)) (profile-threshold p (and-right (soundLimiter l) (soundEmergency p) rest))
+    let scalars = and-left (soundScalars (scalarsOf m)) (soundLogs builtIn (m .logs)) e in
+    rw (limiter-threshold (m .limiter) (limiter-sound (scalarsOf m) scalars))
+    (profile-threshold (m .emergency) (emergency-sound (scalarsOf m) scalars))
 
 -- ---- the reader's test of the bytes
 
@@ -50,20 +48,20 @@ valid-is : (s : List ℕ) → layout .valid s start ≡ leb (numAt 1 s 54) 1
 unfolding layout
 valid-is s = rw (and-true, and-true)
 
-thresholds-are : (s : List ℕ) → thresholds (meterIn s) ≡ leb (numAt 4 s 42) 2147483647 && leb (numAt 4 s 564) 2147483647
+thresholds-are : (s : List ℕ) → thresholds (meterIn s) ≡ leb (numAt 4 s 42) 2147483647 && leb (numAt 4 s 565) 2147483647
 unfolding layout
-thresholds-are s = rw (le-leb 0 (numAt 4 s 42) (omega arith), le-leb 0 (numAt 4 s 564) (omega arith))
+thresholds-are s = rw (le-leb 0 (numAt 4 s 42) (omega arith), le-leb 0 (numAt 4 s 565) (omega arith))
 
-pub tests-are : (s : List ℕ) → leb (numAt 1 s 54) 1 && (leb (numAt 4 s 42) 2147483647 && leb (numAt 4 s 564) 2147483647) ≡ isRecord s
+pub tests-are : (s : List ℕ) → leb (numAt 1 s 54) 1 && (leb (numAt 4 s 42) 2147483647 && leb (numAt 4 s 565) 2147483647) ≡ isRecord s
 tests-are s = rw (valid-is s, thresholds-are s)
 
 module _ (s : List ℕ) where
   -- bytes that pass hold thresholds that their fields can hold
-  pub passed-thresholds : isRecord s ≡ true → (numAt 4 s 42 ≤ 2147483647) × (numAt 4 s 564 ≤ 2147483647)
+  pub passed-thresholds : isRecord s ≡ true → (numAt 4 s 42 ≤ 2147483647) × (numAt 4 s 565 ≤ 2147483647)
   passed-thresholds e =
       let both = sym (thresholds-are s) ∙ and-right (layout .valid s start) (thresholds (meterIn s)) e in (
-        leb-true (numAt 4 s 42) 2147483647 (and-left (leb (numAt 4 s 42) 2147483647) (leb (numAt 4 s 564) 2147483647) both),
-        leb-true (numAt 4 s 564) 2147483647 (and-right (leb (numAt 4 s 42) 2147483647) (leb (numAt 4 s 564) 2147483647) both),
+        leb-true (numAt 4 s 42) 2147483647 (and-left (leb (numAt 4 s 42) 2147483647) (leb (numAt 4 s 565) 2147483647) both),
+        leb-true (numAt 4 s 565) 2147483647 (and-right (leb (numAt 4 s 42) 2147483647) (leb (numAt 4 s 565) 2147483647) both),
       )
 
   -- bytes that do not pass hold no sound record

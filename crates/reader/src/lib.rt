@@ -14,7 +14,7 @@ use meter::Outcome;
 use page::FIRST_LOG;
 use page::PAGE_LEN;
 
-// The record of a page: 9 if the length is not 598, 10 if a pair differs, 11 if the record would not
+// The record of a page: 9 if the length is not 599, 10 if a pair differs, 11 if the record would not
 // be sound.
 pub fn read_page(bytes: &[u8]) -> Outcome
     ensures { λ r. ⌜ r ≡ readOf builtIn (now (bytes .entry)) ⌝ }

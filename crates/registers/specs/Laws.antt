@@ -1,10 +1,12 @@
--- What each call does to each of a register's 32 bits.
+-- What each call does to each of a register's 32 bits, and to the count of the alarms that stand.
 use mathlib.Core.Path.{_≡_}
-use mathlib.Core.Bool.{not, _&&_, _||_}
+use mathlib.Core.Bool.{true, not, _&&_, _||_}
 use Prim.Native.Nat.{ℕ, _^_, _<_}
-use Rattle.base.specs.Bits.{bit}
+use Rattle.base.specs.Bits.{bit, bitCount}
 use Rattle.registers.specs.declared.Register.{Register}
+use Rattle.registers.specs.declared.Alarms.{Alarms}
 use Rattle.registers.specs.Register.{raised, cleared, withFilter}
+use Rattle.registers.specs.Alarms.{alarmsRaised, alarmsCleared, alarmsFiltered, soundAlarms}
 
 -- of a register, and of the number that a call brings: an event's mask, a mask to clear, a filter
 pub record LawsOf (r : Register) (n : ℕ) : Type 0 where
@@ -21,3 +23,16 @@ pub record LawsOf (r : Register) (n : ℕ) : Type 0 where
 -- of every register and every number of 32 bits
 abbrev pub Laws : Type 0
 Laws = (r : Register) (n : ℕ) → r .bits < 2 ^ 32 → r .filter < 2 ^ 32 → n < 2 ^ 32 → LawsOf r n
+
+-- of a sound alarm register, and of the number that a call brings
+pub record AlarmLawsOf (a : Alarms) (n : ℕ) : Type 0 where
+  -- 'Keep that number in the record ..': how many of the 32 bits stand
+  pub counts : a .count ≡ bitCount (a .register .bits)
+  -- '.. true after each call ..'
+  pub raised-sound : soundAlarms (alarmsRaised a n) ≡ true
+  pub cleared-sound : soundAlarms (alarmsCleared a n) ≡ true
+  pub filtered-sound : soundAlarms (alarmsFiltered a n) ≡ true
+
+-- of every sound alarm register and every number
+abbrev pub AlarmLaws : Type 0
+AlarmLaws = (a : Alarms) (n : ℕ) → soundAlarms a ≡ true → AlarmLawsOf a n

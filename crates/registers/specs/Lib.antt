@@ -1,2 +1,3 @@
 pub mod Register
+pub mod Alarms
 pub mod Laws

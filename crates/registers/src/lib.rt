@@ -3,9 +3,18 @@ ghost use mathlib.Core.Path.{_≡_};
 ghost use Rattle.registers.specs.Register.{raised, cleared, withFilter};
 ghost use Rattle.registers.specs.Laws.{Laws};
 
+mod counted;
+
 pub struct Register {
     pub bits: u32,
     pub filter: u32,
+}
+
+// The alarm register with the count of its bits that stand.
+pub struct Alarms {
+    pub register: Register,
+    // 0 to 32.
+    pub count: u8,
 }
 
 impl Register {

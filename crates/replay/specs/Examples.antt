@@ -50,5 +50,5 @@ pub record Examples : Type 0 where
   -- a refused fresh ends the run before a cut record is seen
   pub refused : replayAnswer (only 7 ++ (1 ∷ [])) [] ≡ Refused 1
   pub cut : replayAnswer (only 5 ++ (1 ∷ [])) [] ≡ Short
-  pub small-buffer : replayAnswer (only 5) (replicate 597 0) ≡ Refused 8
-  pub taken : replayAnswer (only 5) (replicate 598 0) ≡ Written
+  pub small-buffer : replayAnswer (only 5) (replicate 598 0) ≡ Refused 8
+  pub taken : replayAnswer (only 5) (replicate 599 0) ≡ Written

@@ -44,7 +44,7 @@ pub enum Replayed {
     Refused(u8),
 }
 
-// Runs a whole input and writes the page of its history into the first 598 bytes of `page`. Every
+// Runs a whole input and writes the page of its history into the first 599 bytes of `page`. Every
 // byte of `page` stays where the answer is not Written.
 pub fn replay(records: &[u8], page: &mut [u8]) -> Replayed
     ensures { λ r. ⌜ (r ≡ replayAnswer (now (records .entry)) (now (page .entry))) × (now (page .exit) ≡ replayed builtIn (now (records .entry)) (now (page .entry))) ⌝ }

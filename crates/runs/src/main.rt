@@ -26,24 +26,24 @@ fn print_area(area: &[u8]) {
 }
 
 // The directory, and the nine areas.
-fn print_page(page: [u8; 598]) {
+fn print_page(page: [u8; 599]) {
     print_area(&page[0..36]);
     print_area(&page[36..42]);
     print_area(&page[42..59]);
     print_area(&page[59..63]);
-    print_area(&page[63..71]);
-    print_area(&page[71..79]);
-    print_area(&page[79..240]);
-    print_area(&page[240..401]);
-    print_area(&page[401..562]);
-    print_area(&page[562..598]);
+    print_area(&page[63..72]);
+    print_area(&page[72..80]);
+    print_area(&page[80..241]);
+    print_area(&page[241..402]);
+    print_area(&page[402..563]);
+    print_area(&page[563..599]);
 }
 
 // The page of the whole file, or that there is none. A file that does not fit the buffer counts as cut:
 // 65,536 is no multiple of a record's 21 bytes.
 fn print_last_page(file: i32) {
     let mut records = io::large_buffer();
-    let mut page = [0u8; 598];
+    let mut page = [0u8; 599];
     let got = io::read_full(file, &mut records);
     let replayed = replay::replay(&records[..got], &mut page);
     let Replayed::Written = replayed else {

@@ -3,6 +3,7 @@ use mathlib.Core.Bool.{Bool, false, _&&_}
 use mathlib.Core.List.{List, [], _∷_}
 use lib.IntN.{pos}
 use lib.ListN.{getD}
+use Rattle.registers.specs.Alarms.{soundAlarms}
 use Rattle.control.specs.Control.{soundControl}
 use Rattle.limiter.specs.declared.Limiter.{Limiter}
 use Rattle.limiter.specs.Limiter.{soundLimiter}
@@ -48,7 +49,7 @@ scalarsFrom v =
       emergency = v .emergency;
     }
 
--- 'A record is sound if these ranges hold, mode 0 has switch 1, Run is below Over (not Exceeded) or below Under (Exceeded) ..': control, limiter, and
--- profile and groups; the others are of 32 bits by their types
+-- 'A record is sound if these ranges hold, mode 0 has switch 1, Run is below Over (not Exceeded) or below Under (Exceeded) ..': control, limiter, the
+-- alarm count (document 02, A6), and profile and groups; the others are of 32 bits by their types
 unfoldable pub soundScalars : Scalars → Bool
-soundScalars s = soundControl (s .control) && (soundLimiter (s .limiter) && soundEmergency (s .emergency))
+soundScalars s = soundControl (s .control) && (soundLimiter (s .limiter) && (soundAlarms (s .alarms) && soundEmergency (s .emergency)))

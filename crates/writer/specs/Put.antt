@@ -12,7 +12,8 @@ use Rattle.calls.specs.declared.Answer.{Answer}
 use Rattle.steps.specs.declared.Scalars.{Scalars}
 use Rattle.meter.specs.declared.Meter.{Meter}
 use Rattle.meter.specs.Sound.{soundMeter}
-use Rattle.page.specs.Layout.{controlArea, limiterArea, clockArea, registerArea, lineFormat, logArea, logsArea, storedLines, directory, writeAnswer, written}
+use Rattle.page.specs.Layout.{controlArea, limiterArea, clockArea, registerArea, alarmsArea, lineFormat, logArea, logsArea, storedLines, directory}
+use Rattle.page.specs.Layout.{writeAnswer, written}
 
 -- the n lines that stand in the arrays from a place on
 abbrev pub withLines : ℕ → List ℕ → ℕ → ℕ → List ℕ → List ℕ → List ℕ
@@ -38,7 +39,7 @@ abbrev pub withScalars : List ℕ → Scalars → List ℕ
 withScalars out s =
     sets out 0
     (directory
-    ++ (controlArea ⊗ limiterArea ⊗ clockArea ⊗ registerArea ⊗ registerArea) .enc (s .control, (s .limiter, (s .clock, (s .alarms, s .errors)))))
+    ++ (controlArea ⊗ limiterArea ⊗ clockArea ⊗ alarmsArea ⊗ registerArea) .enc (s .control, (s .limiter, (s .clock, (s .alarms, s .errors)))))
 
 -- what is promised of a sound record: the writer's answer, and the buffer that it leaves
 abbrev pub WritesSound : List EventRow → Meter → List ℕ → Answer → List ℕ → Type 0

@@ -17,7 +17,7 @@ use page::FIRST_LOG;
 use page::PAGE_LEN;
 use steps::Scalars;
 
-// Writes the record's page into the first 598 bytes of the buffer. Refuses a record that is not
+// Writes the record's page into the first 599 bytes of the buffer. Refuses a record that is not
 // sound with 12, then a buffer that is too short with 8, and then writes nothing.
 pub fn write_page(m: Meter, out: &mut [u8]) -> Answer
     ensures { λ r. ⌜ (r ≡ writeAnswer builtIn m (now (out .entry))) × (now (out .exit) ≡ written builtIn m (now (out .entry))) ⌝ }

@@ -20,7 +20,7 @@ use stand_in as core;
 pub use letter::Letter;
 
 /// The page's length, `PILLAR_PAGE_SIZE`.
-pub const PAGE: usize = 598;
+pub const PAGE: usize = 599;
 
 /// Whether plain runs here in the proved core's place.
 pub const STAND_IN: bool = cfg!(feature = "stand-in");
