@@ -18,7 +18,7 @@ use Rattle.history.specs.Logs.{when, moves, localCode, firingLines, chan
 use Rattle.history.specs.Laws.{overFiring, underFiring, lineAfter, OneMonitoredValue}
 
 -- one threshold, one monitored value
-one-value : (f : AnyFresh) (t : ℤ) → f .thresholds ≡ t ∷ [] → monitoredValues f ≡ 0 ∷ []
+pub one-value : (f : AnyFresh) (t : ℤ) → f .thresholds ≡ t ∷ [] → monitoredValues f ≡ 0 ∷ []
 unfolding numbersFrom
 one-value f t e = rw e
 

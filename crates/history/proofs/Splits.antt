@@ -109,7 +109,7 @@ clock-split f h t = (λ e. subst (ClockSince f h) e (go (latest-or-none clockIn 
 
 -- ---- 'A spell runs from an accepted remote disconnect to the next accepted remote reconnect or mode 0'
 -- an edge of a spell of the given kind: its begin (true), its end (false)
-abbrev isEdge : Bool → Option Bool → Bool
+abbrev pub isEdge : Bool → Option Bool → Bool
 isEdge b none = false
 isEdge b (some c) = Bool·beq b c
 
@@ -148,7 +148,7 @@ no-begin : (x : Bool) → isEdge true (given x false) ≡ false
 no-begin true = refl
 no-begin false = refl
 
-begins : (e : Effect) (h : History) → isEdge true (spellEdge e h) ≡ true → e ≡ requested remoteDisconnect
+pub begins : (e : Effect) (h : History) → isEdge true (spellEdge e h) ≡ true → e ≡ requested remoteDisconnect
 begins (sampled p) h q = absurd (false≢true q)
 begins (requested remoteDisconnect) h q = refl
 begins (requested remoteReconnect) h q = absurd (false≢true q)

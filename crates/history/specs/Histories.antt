@@ -6,7 +6,7 @@ use mathlib.Core.Bool.{Bool, true, false}
 use mathlib.Core.Option.{none}
 use mathlib.Core.List.{List, [], _∷_, _++_, map}
 use lib.IntN.{pos, negsuc}
-use lib.ListN.{getD}
+use lib.ListN.{getD, replicate}
 use Rattle.events.specs.Line.{Line, line}
 use Rattle.events.specs.Table.{builtIn}
 use Rattle.calls.specs.declared.Letter.{Letter}
@@ -212,6 +212,17 @@ pub record Histories : Type 0 where
       ≡ none ∷ none ∷ none ∷ []
   -- '.. or mode 0': the call that ends a spell is not inside it
   pub spell-ended-by-mode-zero : switchAfterEach (fresh 1 3 1 1 1000) [] (ManualDisconnect ∷ RemoteDisconnect ∷ SetMode 0 ∷ []) ≡ 2 ∷ 0 ∷ 1 ∷ []
+  -- document 02, A7: after a remote disconnect the key closes behind a remote reconnect and not before one; a further remote reconnect may follow
+  pub disconnect-until-key :
+      map
+      (λ m. switchAfterEach (fresh m 3 1 1 1000) [] (RemoteDisconnect ∷ ManualReconnect ∷ RemoteReconnect ∷ ManualReconnect ∷ RemoteReconnect ∷ []))
+      (1 ∷ 3 ∷ 5 ∷ 6 ∷ [])
+      ≡ replicate 4 (0 ∷ 0 ∷ 2 ∷ 1 ∷ 1 ∷ [])
+  -- document 02, A7: so does an under firing in mode 5 or 6, and in no other mode
+  pub disconnect-until-firing :
+      map (λ m. switchAfterEach (fresh m 3 1 1 1000) [] (overSample ∷ RemoteDisconnect ∷ RemoteReconnect ∷ underSample ∷ []))
+      (1 ∷ 3 ∷ 5 ∷ 6 ∷ [])
+      ≡ (2 ∷ 0 ∷ 2 ∷ 2 ∷ []) ∷ (2 ∷ 0 ∷ 2 ∷ 2 ∷ []) ∷ (2 ∷ 0 ∷ 2 ∷ 1 ∷ []) ∷ (2 ∷ 0 ∷ 2 ∷ 1 ∷ []) ∷ []
   -- document 02, A2: '.. a to h or none, b from 1 and c from 2 ..', also by script; 'The new move of A1 bears the letter a; accepting mode 0 answers none,
   -- and so does a call that is refused or moves nothing'
   pub letters-of-calls :

@@ -11,4 +11,5 @@ pub mod OnePhase
 pub mod Splits
 pub mod Laws
 pub mod Examples
+pub mod RemoteDisconnect
 pub mod Histories

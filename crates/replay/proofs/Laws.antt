@@ -8,7 +8,7 @@ use Rattle.replay.specs.Listing.{lineBytes, atEnd}
 use Rattle.replay.specs.Laws.{Laws}
 use Rattle.replay.proofs.Records.{record-lawful, first-read, later-read}
 use Rattle.replay.proofs.Runs.{holds-account}
-use Rattle.replay.proofs.Inputs.{compared}
+use Rattle.replay.proofs.Inputs.{compared, disconnect-holds}
 use Rattle.replay.proofs.Digits.{one-digit, more-digits, decimal-value, room}
 
 line-shown : (xs : List ℕ) → drop (atEnd xs .start) (atEnd xs .bytes) ≡ xs
@@ -27,6 +27,7 @@ laws =
       later-read = later-read;
       account-held = λ rows table s bytes started. holds-account s bytes started rows table;
       compared = compared;
+      disconnect-holds = λ rows table s out bytes e. disconnect-holds s out bytes e rows table;
       one-digit = one-digit;
       more-digits = more-digits;
       decimal-value = decimal-value;

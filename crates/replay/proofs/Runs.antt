@@ -120,7 +120,7 @@ all-valid zero s at = refl
 all-valid (suc n) s at = all-valid n s (at + recordLength)
 
 module _ (s : List ℕ) (bytes : Bytes s) (started : startOf (firstIn s) .answer ≡ answer.Accepted) where
-  settings : Settings (settingsIn (firstIn s))
+  pub settings : Settings (settingsIn (firstIn s))
   settings =
       fresh-laws .accepted-settings (settingsIn (firstIn s)) (settings-range (firstIn s) (record-lawful .held-read s 0 bytes refl)) started
 

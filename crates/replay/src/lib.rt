@@ -6,6 +6,7 @@ ghost use Rattle.replay.specs.Replay.{replayAnswer, replayed};
 ghost use Rattle.replay.specs.Laws.{Laws};
 ghost use Rattle.replay.specs.Examples.{Examples};
 ghost use Rattle.history.specs.Laws.{Laws as AccountLaws};
+ghost use Rattle.history.specs.RemoteDisconnect.{RemoteDisconnectHolds};
 ghost use Rattle.history.specs.Examples.{WorkedExample};
 ghost use Rattle.history.specs.Histories.{Histories};
 
@@ -50,6 +51,7 @@ pub fn replay(records: &[u8], page: &mut [u8]) -> Replayed
     ensures { λ r. ⌜ (r ≡ replayAnswer (now (records .entry)) (now (page .entry))) × (now (page .exit) ≡ replayed builtIn (now (records .entry)) (now (page .entry))) ⌝ }
     ensures laws { λ _. ⌜ Laws ⌝ }
     ensures account { λ _. ⌜ AccountLaws ⌝ }
+    ensures remote_disconnect { λ _. ⌜ RemoteDisconnectHolds ⌝ }
     ensures histories { λ _. ⌜ WorkedExample × Histories ⌝ }
     ensures examples { λ _. ⌜ Examples ⌝ }
 {

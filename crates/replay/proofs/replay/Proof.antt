@@ -13,9 +13,11 @@ use Rattle.calls.specs.declared.Command.{Command}
 use Rattle.replay.specs.declared.Replayed.the-variants.{Written, Empty, Bad, Short, Refused}
 use Rattle.replay.specs.Replay.{recordLength, firstIn, startOf, unlessRefused, replayAnswer, replayed}
 use Rattle.history.specs.Laws.{Laws as AccountLaws}
+use Rattle.history.specs.RemoteDisconnect.{RemoteDisconnectHolds}
 use Rattle.history.specs.Examples.{WorkedExample}
 use Rattle.history.specs.Histories.{Histories}
 use Rattle.history.proofs.Laws as account
+use Rattle.history.proofs.RemoteDisconnect.{remote-disconnect-holds}
 use Rattle.history.proofs.Examples.{worked-example, histories}
 use Rattle.replay.specs.Laws.{Laws}
 use Rattle.replay.specs.Examples.{Examples}
@@ -26,8 +28,8 @@ use Rattle.replay.proofs.replay.Statement.{statement}
 use Rattle.replay.proofs.replay.Tie as tie
 
 -- what is promised beside the equations, of every input alike
-claims : Laws × (AccountLaws × ((WorkedExample × Histories) × Examples))
-claims = (laws, (account.laws, ((worked-example, histories), examples)))
+claims : Laws × (AccountLaws × (RemoteDisconnectHolds × ((WorkedExample × Histories) × Examples)))
+claims = (laws, (account.laws, (remote-disconnect-holds, ((worked-example, histories), examples))))
 
 -- the input and the buffer, as they came
 abbrev input : tie.Start → List ℕ
