@@ -68,6 +68,7 @@ histories =
       several-thresholds = refl;
       several-runs = refl;
       several-armed = refl;
+      several-changed = refl;
       groups-taken = refl;
       groups-kept = refl;
       profile-taken = refl;

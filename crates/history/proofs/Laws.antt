@@ -12,7 +12,7 @@ use Rattle.history.proofs.OneMonitored.{one-monitored-value}
 use Rattle.history.proofs.Letters.{letter-row, letter-refused}
 use Rattle.history.proofs.Profiles.{groups-split, profile-split, accepted-governing, state-split, judged-governed, judged-behind, judged-waiting}
 use Rattle.history.proofs.Profiles.{judged-without, after-last, profile-kept, normal-at-once, replaced-seen, equal-unseen, equal-unlogged}
-use Rattle.history.proofs.Profiles.{waiting-unlogged, changed-run, exceeded-kept}
+use Rattle.history.proofs.Profiles.{active-in-force, waiting-unlogged, replaced-owes, changed-run, exceeded-kept}
 use Rattle.history.proofs.Armed.{armed-owes, moved-arms, moved-ends, unmoved-unseen, seen-split}
 
 laws-of : (f : AnyFresh) → LawsOf f
@@ -65,9 +65,11 @@ laws-of f =
       withoutJudged = judged-without f;
       afterLast = after-last f;
       profileKept = profile-kept f;
+      activeInForce = active-in-force f;
       replacedNormal = normal-at-once f;
       replacedSeen = replaced-seen f;
       waitingUnlogged = waiting-unlogged f;
+      replacedOwes = replaced-owes f;
       changedRun = changed-run f;
       equalUnseen = λ k ps h w p. equal-unseen f ps h w p k;
       equalUnlogged = λ n ps h w p e. equal-unlogged f ps h w p e n;

@@ -2,7 +2,7 @@
 use Prim.Native.Nat.{ℕ, zero, suc, min, _+_, _-_, _≤_, _<_}
 use native.Mathlib.Nat.{min-zero}
 use native.Mathlib.Omega.{arith}
-use mathlib.Core.Path.{_≡_, refl, sym, ap, ap₂, subst, _∙_}
+use mathlib.Core.Path.{_≡_, refl, sym, ap, ap₂, subst, fun-ext, _∙_}
 use mathlib.Core.Bool.{Bool, true, false, not, _&&_, cond, false≢true}
 use mathlib.Core.List.{List, [], _∷_, _++_, append-assoc, append-nil}
 use mathlib.Core.Logic.{_↔_, _≢_, _⊎_, inl, inr}
@@ -20,7 +20,7 @@ use Rattle.history.specs.Effects.{AnyFresh, Profile, RequestCall, remote
 use Rattle.history.specs.Effects.{setLimiter, setClock, event, setFilter, clearBits, clearLog, script, setGroups, setProfile, Reading, refused}
 use Rattle.history.specs.Effects.{accepted, listedModes, readRequest, readEvent, reading, Effect, sampled, requested, modeSet, limitsSet, clockSet}
 use Rattle.history.specs.Effects.{occurred, filterSet, bitsCleared, logCleared, groupsSet, profileSet}
-use Rattle.history.specs.Last.{History, last, modeOf, clockOf, limitsOf, thresholdOf, numberAt}
+use Rattle.history.specs.Last.{History, last, samplesSince, modeOf, clockOf, limitsOf, thresholdOf, numberAt}
 use Rattle.history.specs.Profile.{groupsIn, groupsOf, profileIn, profileOf, clocksSince, fromReached, governed, ProfileState, noProfile, waiting}
 use Rattle.history.specs.Profile.{active, stateBy, stateAt, profileState, thresholdBy, thresholdInForce, thresholdWith, thresholdAt}
 use Rattle.history.specs.Limiter.{Observation, judged, sinceSetting, exceeded, trailing, run, monitoredValues}
@@ -410,6 +410,16 @@ waiting-unlogged f n h v w e =
     nothing : (x : Bool) → when x [] ≡ []
     nothing true = refl
     nothing false = refl
+
+-- an active profile's threshold is in force
+pub active-in-force : (f : AnyFresh) (k : ℕ) (h : History) (w : Profile) (n : ℕ) → profileState f h ≡ active w n → thresholdInForce f k h ≡ w .threshold
+active-in-force f k h w n e = ap (thresholdBy (thresholdOf f k h)) e
+
+pub replaced-owes : (f : AnyFresh) (h : History) (v w : Profile) (n : ℕ) → profileState f h ≡ active v n
+    → owedBy f 3 (profileSet w) h ≡ when (any (λ k. not (eqZ (v .threshold) (thresholdOf f k h))) (monitoredValues f)) (line (clockOf f h) 67 ∷ [])
+unfolding last samplesSince
+replaced-owes f h v w n e =
+    ap₂ (changeLines f (clockOf f (profileSet w ∷ h))) (fun-ext (λ k. active-in-force f k h v n e)) (fun-ext (λ k. normal-at-once f k h w))
 
 pub changed-run : (f : AnyFresh) (h : History) (before after : ℤ) (os : List Observation) → eqZ before after ≡ false → run (changeSeen f h before after ++ os) ≡ 0
 unfolding exceeded sinceSetting trailing

@@ -20,7 +20,7 @@ use Rattle.history.specs.Effects.{requested, reading}
 use Rattle.history.specs.Profile.{ProfileState, noProfile, waiting, active}
 use Rattle.history.specs.Switch.{decides}
 use Rattle.history.specs.Account.{AnyAccount, accountOf, anyAccount}
-use Rattle.history.specs.OnePhase.{Fresh, asFresh, profileWith, letter}
+use Rattle.history.specs.OnePhase.{Fresh, asFresh, asCall, profileWith, letter}
 use Rattle.history.specs.Examples.{fresh, builtInAccount, refusal, answer, codes}
 
 -- what a call is answered in modes 0 to 6
@@ -339,6 +339,14 @@ pub record Histories : Type 0 where
         (false, 0) ∷ (true, 0) ∷ [],
         line 1002 65 ∷ line 1002 65 ∷ line 1002 64 ∷ line 1003 61 ∷ line 1005 65 ∷ line 1005 64 ∷ [],
       )
+      ∷ []
+  -- document 02, A3, of two monitored values: an emergency threshold that is the first one's own changes the second alone, with one 67 at the start and
+  -- one at the end
+  pub several-changed :
+      map (λ calls. limiterShows (twoValues 9 9 (both 9 9 ∷ asCall groups ∷ asCall (profile 3 0 2) ∷ calls)))
+      ((both 9 9 ∷ []) ∷ (both 9 9 ∷ both 4 4 ∷ []) ∷ [])
+      ≡ ((false, 2) ∷ (false, 1) ∷ [], line 1002 67 ∷ [])
+      ∷ ((false, 3) ∷ (false, 0) ∷ [], line 1002 67 ∷ line 1003 67 ∷ [])
       ∷ []
   -- document 02, A3: '14, more than eight ids'; judged whole; '.. two to a number, high half first', those past the count ignored, order and doubles kept
   pub groups-taken :

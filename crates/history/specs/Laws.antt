@@ -12,7 +12,7 @@ use lib.IntN.{ℤ}
 use lib.Signed.{ltZ}
 use lib.ListN.{length}
 use Rattle.base.specs.Bits.{bit, bitCount}
-use Rattle.base.specs.Tests.{among, eqZ, gathered}
+use Rattle.base.specs.Tests.{among, any, eqZ, gathered}
 use Rattle.events.specs.Line.{Line, line}
 use Rattle.events.specs.Table.{EventRow}
 use Rattle.calls.specs.declared.Letter.{Letter}
@@ -21,7 +21,7 @@ use Rattle.history.specs.Effects.{AnyFresh, AnyCall, remoteReconnect, ma
 use Rattle.history.specs.Effects.{requested}
 use Rattle.history.specs.Effects.{modeSet, limitsSet, profileSet, Profile, refused, reading}
 use Rattle.history.specs.Last.{History, given, modeIn, modeOf, Limits, limits, limitsIn, limitsOf, thresholdOf, numberAt, filterIn, filterOf, clockOf}
-use Rattle.history.specs.Profile.{groupsIn, groupsOf, profileIn, profileOf, ProfileState, noProfile, waiting, profileState, thresholdInForce, thresholdAt}
+use Rattle.history.specs.Profile.{groupsIn, groupsOf, profileIn, profileOf, ProfileState, noProfile, waiting, active, profileState, thresholdInForce, thresholdAt}
 use Rattle.history.specs.Limiter.{Observation, setting, judged, stretchEnds, exceeded, run, firesOver, firesUnder, monitoredValues}
 use Rattle.history.specs.Switch.{spell, settingOf, changeSeen, observations, decides, switchOf, exceededOf, runOf}
 use Rattle.history.specs.Registers.{raises, clears, stands, bitsOf, alarmCountOf}
@@ -280,6 +280,11 @@ pub record LawsOf (f : AnyFresh) : Type 0 where
       → 1 ≤ w .duration
       → w .duration ≤ n
       → (profileState f h ≡ noProfile) × (thresholdInForce f k h ≡ thresholdOf f k h)
+  -- document 02, A3: '.. and governs that many samples ..': while it is active its threshold is in force, between those samples too
+  pub activeInForce :
+      (k : ℕ) (h : History) (w : Profile) (n : ℕ)
+      → profileState f h ≡ active w n
+      → thresholdInForce f k h ≡ w .threshold
   -- document 02, A3: '.. setting the clock back or new groups don't end it': only samples and kind 17 bear on it
   pub profileKept :
       (e : Effect) (h : History)
@@ -299,6 +304,11 @@ pub record LawsOf (f : AnyFresh) : Type 0 where
       (n : ℕ) (h : History) (v w : Profile)
       → profileState f h ≡ waiting v
       → owedBy f n (profileSet w) h ≡ []
+  -- .. and over an active one a 67, once, if that puts another threshold in force for some monitored value
+  pub replacedOwes :
+      (h : History) (v w : Profile) (n : ℕ)
+      → profileState f h ≡ active v n
+      → owedBy f 3 (profileSet w) h ≡ when (any (λ k. not (eqZ (v .threshold) (thresholdOf f k h))) (monitoredValues f)) (line (clockOf f h) 67 ∷ [])
   -- document 02, A3: 'Whenever the threshold in force becomes another number, Run is 0 ..'
   pub changedRun :
       (h : History) (before after : ℤ) (os : List Observation)
