@@ -6,7 +6,7 @@ use Rattle.base.proofs.Below.{below-at}
 use Rattle.base.specs.Tests.{eqZ}
 use Rattle.limiter.specs.Limiter.{isThreshold}
 use Rattle.emergency.specs.declared.Emergency.{Emergency}
-use Rattle.emergency.specs.Emergency.{isEmpty, isDuration, inRanges, soundProfile, soundGroups, soundEmergency, Eight, groupsIn, padded, withFields}
+use Rattle.emergency.specs.Emergency.{isEmpty, isDuration, inRanges, soundProfile, soundGroups, soundEmergency, EightIds, groupsIn, padded, withFields}
 use Rattle.emergency.specs.Emergency.{withGroups, withProfile, withoutProfile, started, ended}
 pub use Rattle.emergency.proofs.Places.{padded-eight, taken-back}
 use Rattle.emergency.proofs.Places.{padded-sound, places-back}
@@ -58,7 +58,7 @@ which e h =
     runs (eqb-true (e .state) 2 (and-left _ _ r)) (and-right (within 1 (e .duration) (e .left)) _ s) (and-left _ _ s)))
 
 -- the group ids, and the eight places from them
-module _ (e : Emergency) (z : Eight e) (h : soundGroups e ≡ true) where
+module _ (e : Emergency) (z : EightIds e) (h : soundGroups e ≡ true) where
   pub count-back : length (groupsIn e) ≡ e .count
   count-back = omega (arith, length-take (e .count) (e .ids), z, leb-true (e .count) 8 (and-left _ _ h))
 

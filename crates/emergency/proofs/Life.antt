@@ -3,18 +3,18 @@ use Rattle.base.proofs.Prelude.{_≡_, refl, true, false, _&&_, cond, List, ℕ
 use Rattle.base.proofs.Prelude.{le-leb, lt-leb, leb-true, leb-false, ltb-true, ltb-false, by-test}
 use Rattle.emergency.specs.declared.Emergency.{Emergency}
 use Rattle.emergency.specs.Emergency.{groupsIn, withFields, withGroups, withProfile, withoutProfile, started, ended, inForce}
-use Rattle.emergency.specs.Laws.{governed, Laws}
+use Rattle.emergency.specs.Laws.{afterGoverned, Laws}
 use Rattle.emergency.proofs.Kept.{groups-sound, waiting-sound, started-sound, ended-sound, taken-back}
 
 module _ (e : Emergency) (i : ℕ) (t : ℤ) (a d : ℕ) where
-  stays-gone : (k : ℕ) → governed k (withoutProfile e) ≡ withoutProfile e
-  unfolding governed
+  stays-gone : (k : ℕ) → afterGoverned k (withoutProfile e) ≡ withoutProfile e
+  unfolding afterGoverned
   stays-gone zero = refl
   stays-gone (suc k) = stays-gone k
 
   -- active with n samples left, after k more
-  after : (k n : ℕ) → 1 ≤ n → governed k (withFields e i t a d n 2) ≡ cond (ltb k n) (withFields e i t a d (n - k) 2) (withoutProfile e)
-  unfolding governed
+  after : (k n : ℕ) → 1 ≤ n → afterGoverned k (withFields e i t a d n 2) ≡ cond (ltb k n) (withFields e i t a d (n - k) 2) (withoutProfile e)
+  unfolding afterGoverned
   after zero n h =
       let none : n - 0 ≡ n = omega arith in
       rw (lt-ltb 0 n h, none)
@@ -37,10 +37,10 @@ module _ (e : Emergency) (i : ℕ) (t : ℤ) (a d : ℕ) where
     before-activation : clock < a → started clock (withProfile e i t a d) ≡ withProfile e i t a d
     before-activation h = rw (lt-leb a clock h)
 
-    governs : (k : ℕ) (normal : ℤ) → a ≤ clock → 1 ≤ d → inForce (governed k (started clock (withProfile e i t a d))) normal ≡ cond (ltb k d) t normal
+    governs : (k : ℕ) (normal : ℤ) → a ≤ clock → 1 ≤ d → inForce (afterGoverned k (started clock (withProfile e i t a d))) normal ≡ cond (ltb k d) t normal
     governs k normal h l = rw (le-leb a clock h, after k d l) (by-test (ltb k d) (λ q. rw q) (λ q. rw q))
 
-    gone : a ≤ clock → 1 ≤ d → governed d (started clock (withProfile e i t a d)) ≡ withoutProfile e
+    gone : a ≤ clock → 1 ≤ d → afterGoverned d (started clock (withProfile e i t a d)) ≡ withoutProfile e
     gone h l = rw (le-leb a clock h, after d d l, le-ltb d d (omega arith))
 
 module _ (e : Emergency) where

@@ -8,7 +8,7 @@ use Rattle.base.proofs.Below.{below-all, below-more as below-more-test}
 use borrow.Author.Count.{below-more}
 use lib.ListN.{List·getD-eq-default}
 use lib.Seq.{getD-take, take-set-le, ext-getD}
-use Rattle.emergency.specs.declared.Group.the-variants.{Listed, NotListed}
+use Rattle.emergency.specs.declared.Lookup.the-variants.{Listed, NotListed}
 use Rattle.emergency.specs.Emergency.{soundIds, padded, listedOf}
 
 zeros : (n j : ℕ) → _≡_ {A = ℕ} (getD (replicate n 0) j 0) 0

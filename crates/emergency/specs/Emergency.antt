@@ -10,8 +10,8 @@ use lib.ListN.{length, take, getD, replicate}
 use Rattle.base.specs.Tests.{within, among, below, eqZ}
 use Rattle.limiter.specs.Limiter.{isThreshold}
 use Rattle.emergency.specs.declared.Emergency.{Emergency}
-use Rattle.emergency.specs.declared.Group.{Group}
-use Rattle.emergency.specs.declared.Group.the-variants.{Listed, NotListed}
+use Rattle.emergency.specs.declared.Lookup.{Lookup}
+use Rattle.emergency.specs.declared.Lookup.the-variants.{Listed, NotListed}
 
 -- 'with state 0 the first five are zero'
 abbrev pub isEmpty : Emergency → Bool
@@ -46,8 +46,8 @@ unfoldable pub soundEmergency : Emergency → Bool
 soundEmergency e = soundProfile e && soundGroups e
 
 -- the array has its type's length
-abbrev pub Eight : Emergency → Type 0
-Eight e = length (e .ids) ≡ 8
+abbrev pub EightIds : Emergency → Type 0
+EightIds e = length (e .ids) ≡ 8
 
 -- the group ids
 abbrev pub groupsIn : Emergency → List ℕ
@@ -58,7 +58,7 @@ unfoldable pub padded : List ℕ → List ℕ
 padded gs = gs ++ replicate (8 - length gs) 0
 
 -- '15, id not in the group (kind 17)': the id where it is in the group
-abbrev pub listedOf : List ℕ → ℕ → Group
+abbrev pub listedOf : List ℕ → ℕ → Lookup
 listedOf gs id = cond (among gs id) (Listed id) NotListed
 
 -- 'Kind 16 sets up to eight group ids'

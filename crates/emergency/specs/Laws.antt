@@ -11,9 +11,9 @@ use Rattle.emergency.specs.declared.Emergency.{Emergency}
 use Rattle.emergency.specs.Emergency.{isDuration, soundEmergency, groupsIn, withFields, withGroups, withProfile, withoutProfile, started, ended, inForce}
 
 -- after that many samples, by what comes behind each
-unfoldable pub governed : ℕ → Emergency → Emergency
-governed zero e = e
-governed (suc k) e = governed k (ended e)
+unfoldable pub afterGoverned : ℕ → Emergency → Emergency
+afterGoverned zero e = e
+afterGoverned (suc k) e = afterGoverned k (ended e)
 
 -- of every area
 pub record LawsOf (e : Emergency) : Type 0 where
@@ -30,9 +30,9 @@ pub record LawsOf (e : Emergency) : Type 0 where
   pub not-governed : (i : ℕ) (t : ℤ) (a d : ℕ) → ended (withProfile e i t a d) ≡ withProfile e i t a d
   -- '.. and governs that many samples, that one included': its threshold is in force for them, and then the limiter's own again
   pub governs : (i : ℕ) (t : ℤ) (a d clock : ℕ) (k : ℕ) (normal : ℤ) → a ≤ clock → 1 ≤ d
-      → inForce (governed k (started clock (withProfile e i t a d))) normal ≡ cond (ltb k d) t normal
+      → inForce (afterGoverned k (started clock (withProfile e i t a d))) normal ≡ cond (ltb k d) t normal
   -- 'after the last governed sample the state is 0 and the account has no profile': all its fields are zero
-  pub gone : (i : ℕ) (t : ℤ) (a d clock : ℕ) → a ≤ clock → 1 ≤ d → governed d (started clock (withProfile e i t a d)) ≡ withoutProfile e
+  pub gone : (i : ℕ) (t : ℤ) (a d clock : ℕ) → a ≤ clock → 1 ≤ d → afterGoverned d (started clock (withProfile e i t a d)) ≡ withoutProfile e
   -- a start changes nothing but the state
   pub only-state : (clock : ℕ) → started clock e ≡ withFields e (e .id) (e .threshold) (e .activation) (e .duration) (e .left) (started clock e .state)
   -- the group ids stay over a profile's life

@@ -3,10 +3,10 @@ ghost use mathlib.Core.Path.{_≡_};
 ghost use Prim.Native.Nat.{min};
 ghost use lib.ListN.{take};
 ghost use Rattle.emergency.specs.Emergency.{soundIds, padded, listedOf};
-use crate::Group;
+use crate::Lookup;
 
 // A byte as an index.
-fn wide(n: u8) -> usize
+fn as_index(n: u8) -> usize
     ensures { λ r. ⌜ r ≡ n ⌝ }
 {
     n as usize
@@ -17,7 +17,7 @@ fn wide(n: u8) -> usize
 pub(crate) fn sound(count: u8, ids: [u16; 8]) -> bool
     ensures { λ r. ⌜ r ≡ soundIds count ids ⌝ }
 {
-    let held = wide(count);
+    let held = as_index(count);
     let mut ok = held <= 8;
     let mut i: usize = 0;
     while i < 8 {
@@ -28,19 +28,19 @@ pub(crate) fn sound(count: u8, ids: [u16; 8]) -> bool
 }
 
 // The first of the ids held that equals the one asked for.
-pub(crate) fn find(count: u8, ids: [u16; 8], asked: u32) -> Group
+pub(crate) fn find(count: u8, ids: [u16; 8], asked: u32) -> Lookup
     ensures { λ r. ⌜ r ≡ listedOf (take count ids) asked ⌝ }
 {
-    let held = wide(count);
+    let held = as_index(count);
     let mut i: usize = 0;
     while i < 8 {
         let id = ids[i];
         if (i < held) & (asked == id as u32) {
-            return Group::Listed(id);
+            return Lookup::Listed(id);
         }
         i = i + 1;
     }
-    Group::NotListed
+    Lookup::NotListed
 }
 
 // How many of eight ids a count takes.
@@ -57,7 +57,7 @@ pub(crate) fn taken(count: u8) -> u8
 pub(crate) fn zeroed(count: u8, mut ids: [u16; 8]) -> [u16; 8]
     ensures { λ r. ⌜ r ≡ padded (take count ids) ⌝ }
 {
-    let mut i = wide(count);
+    let mut i = as_index(count);
     while i < 8 {
         ids[i] = 0;
         i = i + 1;

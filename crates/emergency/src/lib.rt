@@ -31,7 +31,7 @@ pub struct Emergency {
 }
 
 // What the group ids say of an id.
-pub enum Group {
+pub enum Lookup {
     // It is one of them.
     Listed(u16),
     // It is none of them: refusal 15.
@@ -57,7 +57,7 @@ impl Emergency {
 
     // The id among the group ids. A call's id has 32 bits and is compared whole; the one that is found
     // has the 16 bits of a group id.
-    pub fn find(self, id: u32) -> Group
+    pub fn find(self, id: u32) -> Lookup
         ensures { λ r. ⌜ r ≡ listedOf (groupsIn self) id ⌝ }
     {
         let ids = self.ids;

@@ -163,8 +163,8 @@ module _ (f : AnyFresh) (h : History) (w : Profile) where
   begun-one n x = omega (arith, x .counted)
 
   -- the profile by that number
-  standing-count : (n : ℕ) → profileOf h ≡ some w → reachedIn f (w .activation) h ≡ n → profileState f h ≡ stateBy w (min (w .duration) n)
-  standing-count n p c =
+  state-by-count : (n : ℕ) → profileOf h ≡ some w → reachedIn f (w .activation) h ≡ n → profileState f h ≡ stateBy w (min (w .duration) n)
+  state-by-count n p c =
       ap (λ (o : Option Profile). stateAt o (clocksSince f h)) p
       ∙ ap (stateBy w) (length-take (w .duration) (fromReached (w .activation) (clocksSince f h)) ∙ ap (min (w .duration)) c)
 
@@ -184,12 +184,12 @@ all-governed w n (suc m) e p l = rw (le-ltb (suc m) (w .duration) (omega (arith,
 -- what a split says is what the account says
 module _ (f : AnyFresh) (h : History) where
   pub ended-profile : (w : Profile) (n : ℕ) → Begun f h w n → 1 ≤ w .duration → w .duration ≤ n → profileState f h ≡ noProfile
-  ended-profile w n b p l = standing-count f h w n (begun-profile f h w n b) (begun-count f h w n b) ∙ all-governed w n (min (w .duration) n) refl p l
+  ended-profile w n b p l = state-by-count f h w n (begun-profile f h w n b) (begun-count f h w n b) ∙ all-governed w n (min (w .duration) n) refl p l
 
   state-only : (x : ProfileState) → Governs h → InState f h x → profileState f h ≡ x
   state-only x g (noneEver n q) = ap (λ (o : Option Profile). stateAt o (clocksSince f h)) (profile-split h none .1 (never n refl)) ∙ sym q
-  state-only x g (waits w v q) = standing-count f h w 0 (waits-profile f h w v) (waits-count f h w v) ∙ still-waiting w ∙ sym q
-  state-only x g (runs w n b l q) = standing-count f h w n (begun-profile f h w n b) (begun-count f h w n b) ∙ still-active w n (begun-one f h w n b) l ∙ sym q
+  state-only x g (waits w v q) = state-by-count f h w 0 (waits-profile f h w v) (waits-count f h w v) ∙ still-waiting w ∙ sym q
+  state-only x g (runs w n b l q) = state-by-count f h w n (begun-profile f h w n b) (begun-count f h w n b) ∙ still-active w n (begun-one f h w n b) l ∙ sym q
   state-only x g (ended w n b l q) = ended-profile w n b (g w (begun-profile f h w n b)) l ∙ sym q
 
 -- ---- each history is one of these

@@ -12,7 +12,7 @@ use Rattle.limiter.specs.declared.Limiter.{Limiter}
 use Rattle.base.specs.Tests.{within}
 use Rattle.codec.specs.Format.{num}
 use Rattle.emergency.specs.declared.Emergency.{Emergency}
-use Rattle.emergency.specs.Emergency.{inRanges, soundEmergency, Eight}
+use Rattle.emergency.specs.Emergency.{inRanges, soundEmergency, EightIds}
 use Rattle.emergency.proofs.Kept.{Which, empty, waits, runs, which, profile-part, groups-part}
 use Rattle.logs.specs.declared.Logs.{Logs}
 use Rattle.steps.proofs.Sound.{control-sound, limiter-sound, alarms-sound, emergency-sound}
@@ -80,7 +80,7 @@ ids-held : (k at : ℕ) (ids : List ℕ) → ((i : ℕ) → getD ids i 0 < 65536
 ids-held zero at ids h = tt
 ids-held (suc k) at ids h = (omega (arith, h at), ids-held k (suc at) ids h)
 
-module _ (e : Emergency) (sound : soundEmergency e ≡ true) (id : e .id < 65536) (activation : Word (e .activation)) (eight : Eight e)
+module _ (e : Emergency) (sound : soundEmergency e ≡ true) (id : e .id < 65536) (activation : Word (e .activation)) (eight : EightIds e)
     (ids : (i : ℕ) → getD (e .ids) i 0 < 65536) where
   -- whatever the state, the profile's numbers have their bytes
   in-bytes : T (nonNeg (e .threshold)) × (natAbs (e .threshold) < 256 ^ 4) → e .duration ≤ 604800 → e .left ≤ 604800 → e .state ≤ 2

@@ -10,8 +10,8 @@ use mir.Val.{toZ, ofZ, SFits}
 use Rattle.base.specs.Tests.{within, among, any, eqZ}
 use Rattle.limiter.specs.declared.Limiter.{Limiter}
 use Rattle.emergency.specs.declared.Emergency.{Emergency}
-use Rattle.emergency.specs.declared.Group.{Group}
-use Rattle.emergency.specs.declared.Group.the-variants.{Listed, NotListed}
+use Rattle.emergency.specs.declared.Lookup.{Lookup}
+use Rattle.emergency.specs.declared.Lookup.the-variants.{Listed, NotListed}
 use Rattle.emergency.specs.Emergency.{groupsIn, listedOf, withProfile, inForce}
 use Rattle.history.specs.OnePhase.{profileWith}
 use Rattle.machine.specs.Values.{withLimiters, withEmergency}
@@ -25,14 +25,14 @@ use Rattle.steps.specs.Step.{stepFor, stepOf, stepWith}
 use Rattle.steps.proofs.Steps.{same-number}
 
 -- what the lookup tells
-pub not-in-group : {x : Group} (gs : List ℕ) (i : ℕ) → x ≡ listedOf gs i → x ≡ NotListed → among gs i ≡ false
+pub not-in-group : {x : Lookup} (gs : List ℕ) (i : ℕ) → x ≡ listedOf gs i → x ≡ NotListed → among gs i ≡ false
 not-in-group gs i found told = go (among gs i) (sym told ∙ found)
   where
     go : (b : Bool) → NotListed ≡ cond b (Listed i) NotListed → b ≡ false
     go true e = cc
     go false e = refl
 
-pub in-group : {x : Group} {j : ℕ} (gs : List ℕ) (i : ℕ) → x ≡ listedOf gs i → x ≡ Listed j → (among gs i ≡ true) × (j ≡ i)
+pub in-group : {x : Lookup} {j : ℕ} (gs : List ℕ) (i : ℕ) → x ≡ listedOf gs i → x ≡ Listed j → (among gs i ≡ true) × (j ≡ i)
 in-group {j = j} gs i found told = go (among gs i) (sym told ∙ found)
   where
     go : (b : Bool) → Listed j ≡ cond b (Listed i) NotListed → (b ≡ true) × (j ≡ i)

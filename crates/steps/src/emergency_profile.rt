@@ -8,7 +8,7 @@ use crate::Scalars;
 use crate::Step;
 use crate::sampling::restarted;
 use calls::Letter;
-use emergency::Group;
+use emergency::Lookup;
 
 impl Scalars {
     // Two ids to a number, the high half first. The count is judged at its full width.
@@ -43,7 +43,7 @@ impl Scalars {
         ensures { λ r. ⌜ r ≡ stepOf self (profileResult (valuesOf self) (profileWith id threshold activation duration)) ⌝ }
     {
         let group = self.emergency.find(id);
-        let Group::Listed(found) = group else {
+        let Lookup::Listed(found) = group else {
             return self.with(self.status().refused(15));
         };
         if !(emergency::is_duration(duration) & (0 <= threshold)) {

@@ -7,4 +7,4 @@ pub sound-spec : {M : Type 1} → statement M
 sound-spec =
     tie.close (tie.spec (λ count ids held ok₀ i₀. Tested held ids) (λ count ids held ok₀ i₀ ok i. 8 - i) (λ c κs. search needs) (λ c. tested-none)
     (λ c. search needs) (λ c. search needs) (λ c. search needs) (λ c. search needs) (λ c. tested-one (c .before .loop .inv) (search needs))
-    (λ c. rw (← c .before .before .wide .ensures) (tested-all (c .before .loop .inv) (search needs))))
+    (λ c. rw (← c .before .before .as-index .ensures) (tested-all (c .before .loop .inv) (search needs))))
