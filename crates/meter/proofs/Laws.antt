@@ -7,7 +7,7 @@ use Rattle.events.specs.Table.{EventRow, builtIn, lawful}
 use Rattle.events.proofs.Rule.{built-in-lawful}
 use Rattle.meter.specs.Laws.{LawsOf, Laws}
 use Rattle.meter.proofs.Values.{record-of-state, state-of-record}
-use Rattle.meter.proofs.Tail.{in-parts, sound-in-parts, command-in-parts}
+use Rattle.meter.proofs.Tail.{sound-in-parts, command-in-parts}
 use Rattle.meter.proofs.Preserved.{applied-answer, refused-same, refused-letter, commanded-same, applied-sound}
 use Rattle.meter.proofs.Simulates.{simulates, letters, reached-sound}
 
@@ -17,7 +17,6 @@ laws-of rows table =
       record-of-state = record-of-state rows;
       state-of-record = state-of-record rows;
       kept-sound = λ m c z i e. applied-sound rows table m c i z e;
-      in-parts = in-parts rows;
       sound-in-parts = sound-in-parts rows;
       command-in-parts = command-in-parts rows;
       answers = applied-answer rows;

@@ -2,12 +2,12 @@
 use Prim.Native.Nat.{ℕ, _≤_}
 use native.Mathlib.Omega.{arith}
 use mathlib.Core.Path.{_≡_, refl, ap, _∙_, sym}
-use mathlib.Core.Bool.{Bool, true, _&&_, cond}
+use mathlib.Core.Bool.{Bool, true, false, _&&_}
 use mathlib.Core.List.{List, [], map}
 use lib.IntN.{ℤ}
 use lib.ListN.{length, take, length-map, length-append}
 use lib.Seq.{take-at, length-take-le}
-use Rattle.base.proofs.Bools.{by-test, and-right}
+use Rattle.base.proofs.Bools.{and-right}
 use Rattle.events.specs.Line.{Line}
 use Rattle.events.specs.Table.{EventRow}
 use Rattle.logs.specs.declared.Logs.{Logs}
@@ -40,7 +40,7 @@ use Rattle.meter.specs.declared.Outcome.{Outcome}
 use Rattle.meter.specs.State.{scalarsOf, withLogs}
 use Rattle.meter.specs.Sound.{soundMeter}
 use Rattle.meter.specs.Machine.{refusedWith, carriedOut, applied, performed, commanded}
-use Rattle.meter.specs.Parts.{outcomeOf, arraysAfter, leftIn, carriedOutInParts, appliedInParts, performedInParts, commandedInParts}
+use Rattle.meter.specs.Parts.{outcomeOf, arraysAfter, leftIn, carriedOutInParts, performedInParts, commandedInParts}
 
 -- ---- the lines of a step, as the code has them
 module _ (f : Line → ℕ) (xs : List Line) where
@@ -56,10 +56,9 @@ pub sound-is : (rows : List EventRow) (m : Meter) (a b : Bool) → a ≡ soundSc
 unfolding soundMeter soundLogs
 sound-is rows m a b p q = rw (p, q)
 
-pub applied-by : (rows : List EventRow) (m : Meter) (c : Call) (b : Bool) → soundMeter rows m ≡ b
-    → cond b (carriedOutInParts rows m c) (refusedWith m 12) ≡ appliedInParts rows m c
-unfolding appliedInParts
-applied-by rows m c b e = rw e
+pub unsound-refused : (rows : List EventRow) (m : Meter) (c : Call) → soundMeter rows m ≡ false → refusedWith m 12 ≡ applied rows m c
+unfolding applied
+unsound-refused rows m c e = rw e
 
 -- ---- the logs
 module _ (rows : List EventRow) (g : Logs) (z : Sized g) (e : soundLogs rows g ≡ true) (r : Change) where
@@ -105,6 +104,19 @@ quiet-left rows m p q is quiet =
     finished rows m (Sample p) (stepFor (owing (valuesOf (q .scalars)) 3 [])) (m .logs) (m .logs)
     (rw is (quiet-made (scalarsOf m) p (rw is at quiet))) refl (none-appended 3 [] [] (m .logs) refl)
 
+-- the record with the clock and the limiter of other scalars
+abbrev withSampled : Meter → Scalars → Meter
+withSampled m s =
+    record {
+      control = m .control;
+      limiter = s .limiter;
+      clock = s .clock;
+      alarms = m .alarms;
+      errors = m .errors;
+      logs = m .logs;
+      emergency = m .emergency;
+    }
+
 -- ---- of arrays of their types' lengths
 module _ (rows : List EventRow) (m : Meter) where
   laid-out : Sized (m .logs) → soundMeter rows m ≡ true → (r : Result) → leftIn m r ≡ carriedOut m r
@@ -116,14 +128,16 @@ module _ (rows : List EventRow) (m : Meter) where
   unfolding applied
   sound-in-parts c z e = rw e (laid-out z e (resultOf rows (scalarsOf m) c))
 
-  pub in-parts : (c : Call) → Sized (m .logs) → appliedInParts rows m c ≡ applied rows m c
-  unfolding appliedInParts applied
-  in-parts c z = by-test (soundMeter rows m) (λ e. rw e (laid-out z e (resultOf rows (scalarsOf m) c))) (λ e. rw e)
-
   -- and of the record taken apart
-  pub of-parts : (c : Call) (s : Scalars) (o : Outcome) → Sized (m .logs) → s ≡ scalarsOf m
-      → o ≡ appliedInParts rows (withLogs s (m .logs .counts) (m .logs .clocks) (m .logs .codes)) c → o ≡ applied rows m c
-  of-parts c s o z e p = rw (p, e) (in-parts c z)
+  pub of-parts : (c : Call) (s : Scalars) (o : Outcome) → Sized (m .logs) → soundMeter rows m ≡ true → s ≡ scalarsOf m
+      → o ≡ carriedOutInParts rows (withLogs s (m .logs .counts) (m .logs .clocks) (m .logs .codes)) c → o ≡ applied rows m c
+  of-parts c s o z sound e p = rw (p, e) (sound-in-parts c z sound)
+
+  -- a quiet sample of the record as it stands: the logs stay where they are
+  pub quiet-applied : (p : ℤ) (s : Scalars) (q : QuietSample) → Sized (m .logs) → soundMeter rows m ≡ true → s ≡ scalarsOf m → q ≡ quietSample s p
+      → q .quiet ≡ true → record { meter = withSampled m (q .scalars); answer = Accepted; letter = None } ≡ applied rows m (Sample p)
+  quiet-applied p s q z sound same is quiet =
+      rw (is, same) (quiet-left rows m p (quietSample (scalarsOf m) p) refl (rw (is, same) at quiet) ∙ sound-in-parts (Sample p) z sound)
 
   performed-in-parts : (p : Parsed) → Sized (m .logs) → soundMeter rows m ≡ true → performedInParts rows m p ≡ performed rows m p
   performed-in-parts (Ok c) z e = sound-in-parts c z e

@@ -22,7 +22,7 @@ use Rattle.meter.specs.declared.Meter.{Meter}
 use Rattle.meter.specs.State.{stateOf, recordOf}
 use Rattle.meter.specs.Sound.{soundMeter}
 use Rattle.meter.specs.Machine.{applied, commanded, recordAfter}
-use Rattle.meter.specs.Parts.{carriedOutInParts, appliedInParts, commandedInParts}
+use Rattle.meter.specs.Parts.{carriedOutInParts, commandedInParts}
 use Rattle.meter.specs.Settings.{Settings}
 use Rattle.meter.specs.Fresh.{freshState}
 use Rattle.meter.specs.Holding.{holding}
@@ -40,9 +40,8 @@ pub record LawsOf (rows : List EventRow) : Type 0 where
   -- every call keeps a sound record sound
   pub kept-sound : (m : Meter) (c : Call) → Sized (m .logs) → InRange c → soundMeter rows m ≡ true
       → soundMeter rows (applied rows m c .meter) ≡ true
-  -- of arrays of their types' lengths, a call on a record in parts is a call on the record
-  pub in-parts : (m : Meter) (c : Call) → Sized (m .logs) → appliedInParts rows m c ≡ applied rows m c
-  -- and where the record is sound, so is one that does not test it, and a command
+  -- of a sound record with arrays of their types' lengths, a call on the record in parts, which does not test it, is a call on the record; so is a
+  -- command
   pub sound-in-parts : (m : Meter) (c : Call) → Sized (m .logs) → soundMeter rows m ≡ true → carriedOutInParts rows m c ≡ applied rows m c
   pub command-in-parts : (m : Meter) (c : Command) → Sized (m .logs) → soundMeter rows m ≡ true
       → commandedInParts rows m c ≡ commanded rows m c

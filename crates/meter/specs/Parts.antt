@@ -1,6 +1,5 @@
 -- The machine as the code does it, on a record in parts: the scalars by value, the arrays of the logs as they stand, of any length and any content.
 use Prim.Native.Nat.{ℕ}
-use mathlib.Core.Bool.{cond}
 use mathlib.Core.List.{List, map}
 use denote.Ref.{RefT, now}
 use denote.Triple.Both.{Both}
@@ -21,7 +20,6 @@ use Rattle.meter.specs.declared.Meter.{Meter}
 use Rattle.meter.specs.declared.Outcome.{Outcome}
 use Rattle.meter.specs.declared.parts.Answered.{Answered}
 use Rattle.meter.specs.State.{scalarsOf, withLogs}
-use Rattle.meter.specs.Sound.{soundMeter}
 use Rattle.meter.specs.Machine.{refusedWith}
 
 -- an array that is lent for writing: as it was at the call, and as it is left
@@ -51,13 +49,10 @@ leftIn m (making k) =
     let g = arraysAfter (m .logs) k in
     record { meter = withLogs (scalarsFrom (k .values)) (g .counts) (g .clocks) (g .codes); answer = Accepted; letter = k .letter }
 
--- a call carried out on a record in parts, whether it is sound or not
+-- a call carried out on a record in parts, whether it is sound or not; of a sound record with arrays of their types' lengths it is the machine's (see
+-- Laws)
 abbrev pub carriedOutInParts : List EventRow → Meter → Call → Outcome
 carriedOutInParts rows m c = leftIn m (resultOf rows (scalarsOf m) c)
-
--- a call on a record in parts, which is tested; of arrays of their types' lengths it is the machine's (see Laws)
-unfoldable pub appliedInParts : List EventRow → Meter → Call → Outcome
-appliedInParts rows m c = cond (soundMeter rows m) (carriedOutInParts rows m c) (refusedWith m 12)
 
 -- what a command names, carried out: 'kind | 13 | ..'
 abbrev pub performedInParts : List EventRow → Meter → Parsed → Outcome
