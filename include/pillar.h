@@ -4,23 +4,25 @@
  * needs memcpy and memset, and nothing else. This header is C99 and C++11.
  *
  * A meter's state is its page of PILLAR_PAGE_SIZE bytes, which the caller
- * keeps. The core does no input or output. It keeps nothing between calls,
- * allocates nothing, and uses under 4 KiB of stack (measured on x86-64 in a
- * static program; no proof covers it). Two threads may call it at once on pages
- * and letters of their own.
+ * keeps, beside the event table that belongs to it ('The event table' below).
+ * The core does no input or output. It keeps nothing between calls, allocates
+ * nothing, and uses under 4 KiB of stack, pillar_request under 7 KiB (measured
+ * on x86-64 in a static program; no proof covers it). Two threads may call it at
+ * once on pages, letters and answer buffers of their own; they may share a table.
  *
- * The archive has four functions: pillar_fresh, pillar_call, pillar_replay and
- * pillar_check. Each answers 0, or the number of a refusal. On a refusal every
- * byte of the page is as it was. Each is proved to answer and to write what
- * crates/pillar/specs/Interface.antt says (of pillar_replay,
- * crates/replay/specs/Replay.antt), for every length and every number. The
- * rest of this header, names, offsets and inline functions, is not proved: the
- * gate compares it with what the archive writes and answers (tests/header).
+ * The archive has five functions: pillar_table, pillar_fresh, pillar_call,
+ * pillar_replay and pillar_check. Each answers 0, or the number of a refusal. On
+ * a refusal every byte of the page is as it was. Each is proved to answer and to
+ * write what crates/pillar/specs/Interface.antt says (of pillar_table,
+ * crates/tables/specs/Bytes.antt; of pillar_replay,
+ * crates/replay/specs/Replay.antt), for every length and every number. The rest
+ * of this header, names, offsets and inline functions, is not proved: the gate
+ * compares it with what the archive writes and answers (tests/header).
  *
  * The caller gives, for each pointer with a length, that many bytes that may be
  * read and, but for a const pointer, written. A `letter` is one byte that may be
- * written and is not inside the page. No pointer is null, even if the length is
- * 0, and a length is below 2^63.
+ * written. The page, the table and the letter do not overlap. No pointer is null,
+ * even if the length is 0, and a length is below 2^63.
  *
  * Names are those of DLMS and of 003, the Mx381 manual. Letters of moves are
  * those of document 01's table of the switch.
@@ -44,7 +46,7 @@ extern "C" {
  * page bears no version: one that is laid out otherwise is refused by its
  * length or its pairs.
  */
-#define PILLAR_VERSION_MAJOR 4
+#define PILLAR_VERSION_MAJOR 5
 #define PILLAR_VERSION_MINOR 0
 #define PILLAR_VERSION_PATCH 0
 #define PILLAR_VERSION \
@@ -170,6 +172,47 @@ extern "C" {
 #define PILLAR_PAGE_SIZE (PILLAR_OFFSET_EMERGENCY + PILLAR_LENGTH_EMERGENCY)
 #define PILLAR_RECORD_SIZE 21
 
+/* ---- The event table -----------------------------------------------------
+ *
+ * Which codes pillar_report_event takes, the log of each and the bits that it
+ * sets. Each function that reads a page or runs a list takes the bytes of a
+ * table: with length 0 the built-in one serves (enum pillar_event); else the
+ * harbour's own, 1 to PILLAR_TABLE_LINES lines of PILLAR_TABLE_LINE_SIZE bytes:
+ *
+ *   code       rising from line to line; those of enum pillar_logged are barred
+ *   log        one of enum pillar_log
+ *   alarm bit  its place in the alarm register, 0 to 31, or PILLAR_TABLE_NO_BIT
+ *   error bit  its place in the error register, likewise
+ *
+ * One table belongs to one page: keep the two together, under one checksum. The
+ * codes in a page's logs are judged by the table, and an own table takes nothing
+ * from the built-in one: a code that it does not list is refused. A new table
+ * begins with a fresh page.
+ *
+ * No call refuses a table: with bytes that are no good table it does as with the
+ * built-in one. So judge what was kept at power-up, before the first call:
+ *
+ *   pillar_table refuses the table: make no call on its page. With these bytes
+ *   the built-in table would serve: a page whose logs hold another code would be
+ *   refused (PILLAR_REFUSED_PAGE_UNSOUND), and on any other page events would
+ *   get other logs and bits. Take the spare copy of the table. Without a good
+ *   one keep the page for the centre, begin a fresh one under the built-in table
+ *   (length 0), and tell the centre; report no event by the harbour's codes until
+ *   a good table has come, which begins another fresh page.
+ *
+ *   pillar_check refuses the page under its table: the page is damaged, or the
+ *   table is another page's. Take the spare copy of both. Without one begin a
+ *   fresh page, and tell the centre.
+ *
+ * A fresh page says Connected and has no openings, logs or alarms: its account
+ * begins anew, and the relay is not to follow it before the centre has said
+ * whether there is to be supply. Neither test finds a good table in place of
+ * another under which the page is sound, too: the checksum does.
+ */
+#define PILLAR_TABLE_LINE_SIZE 4
+#define PILLAR_TABLE_LINES 64 /* the most */
+#define PILLAR_TABLE_NO_BIT 255
+
 /* ---- Numbers by name ----------------------------------------------------- */
 
 /* The answers. Where several hold, a function stops at the first in its own order. */
@@ -180,17 +223,20 @@ enum pillar_answer {
     PILLAR_REFUSED_SCRIPT = 3,         /* execute script: not 1 or 2 */
     PILLAR_REFUSED_THRESHOLD = 4,      /* fresh, set limiter: negative */
     PILLAR_REFUSED_DURATION = 5,       /* fresh, set limiter: not 1 to 86400 */
-    PILLAR_REFUSED_EVENT_CODE = 6,     /* report event: not of enum pillar_event */
+    PILLAR_REFUSED_EVENT_CODE = 6,     /* report event: not of the table */
     PILLAR_REFUSED_LOG = 7,            /* clear log: not 1 to 3 */
     PILLAR_REFUSED_BUFFER = 8,         /* writer: under PILLAR_PAGE_SIZE bytes */
     PILLAR_REFUSED_PAGE_LENGTH = 9,    /* reader: not PILLAR_PAGE_SIZE bytes */
     PILLAR_REFUSED_PAGE_PAIRS = 10,    /* reader: a pair of the directory differs */
-    PILLAR_REFUSED_PAGE_UNSOUND = 11,  /* reader: what the page holds would not be sound */
+    PILLAR_REFUSED_PAGE_UNSOUND = 11,  /* reader: what it holds would not be sound under the table */
     PILLAR_REFUSED_METER_UNSOUND = 12, /* never from C: the reader stops it with 11 */
     PILLAR_REFUSED_KIND = 13,          /* call: not 1 to 17 */
     PILLAR_REFUSED_GROUP_COUNT = 14,   /* set groups: above 8 */
     PILLAR_REFUSED_GROUP_ID = 15,      /* set profile: the id is not one of the groups' */
     PILLAR_REFUSED_PROFILE = 16,       /* set profile: threshold negative, or duration not 1 to 604800 */
+    PILLAR_REFUSED_TABLE_LENGTH = 17,  /* table: not 1 to 64 whole lines */
+    PILLAR_REFUSED_TABLE_CODE = 18,    /* table: code barred, or not above the line before */
+    PILLAR_REFUSED_TABLE_LINE = 19,    /* table: log not 1 to 3, or a bit of 32 to 254 */
     PILLAR_REFUSED_LIST_EMPTY = 100,   /* replay: no byte */
     PILLAR_REFUSED_LIST_BAD = 101,     /* replay: the first record is not of kind 0 */
     PILLAR_REFUSED_LIST_SHORT = 102    /* replay: a record is cut short */
@@ -207,7 +253,7 @@ enum pillar_kind {
     PILLAR_KIND_SET_CONTROL_MODE = 6,  /* control mode */
     PILLAR_KIND_SET_LIMITER = 7,       /* threshold in watts (as power), over and under duration */
     PILLAR_KIND_SET_CLOCK = 8,         /* seconds */
-    PILLAR_KIND_REPORT_EVENT = 9,      /* code */
+    PILLAR_KIND_REPORT_EVENT = 9,      /* code of the table */
     PILLAR_KIND_SET_ALARM_FILTER = 10, /* filter */
     PILLAR_KIND_SET_ERROR_FILTER = 11, /* filter */
     PILLAR_KIND_CLEAR_ALARMS = 12,     /* mask */
@@ -274,7 +320,7 @@ enum pillar_log {
     PILLAR_LOG_DISCONNECT = 3
 };
 
-/* The codes of pillar_report_event, log by log (003, Tables 44, 45 and 47). */
+/* The codes of the built-in table, log by log (003, Tables 44, 45 and 47). */
 enum pillar_event {
     PILLAR_EVENT_POWER_DOWN = 1,
     PILLAR_EVENT_POWER_UP = 2,
@@ -298,7 +344,7 @@ enum pillar_event {
     PILLAR_EVENT_DISCONNECT_RECONNECT_FAILURE = 68
 };
 
-/* The codes that the core logs by itself, besides: pillar_report_event refuses them. */
+/* The codes that the core logs by itself, under any table: barred there, and refused as events. */
 enum pillar_logged {
     PILLAR_LOGGED_CLOCK_ADJUSTED_OLD_DATE_TIME = 4, /* at the old clock */
     PILLAR_LOGGED_CLOCK_ADJUSTED_NEW_DATE_TIME = 5, /* at the new clock */
@@ -319,7 +365,7 @@ enum pillar_logged {
     PILLAR_LOGGED_EVENT_LOG_CLEARED = 255 /* in each log */
 };
 
-/* The bits that events set in the alarm register (003, Table 50); no call sets another. */
+/* The alarm bits that built-in events set (003, Table 50); an own table may name others. */
 #define PILLAR_ALARM_CLOCK_INVALID (UINT32_C(1) << 0)
 #define PILLAR_ALARM_REPLACE_BATTERY (UINT32_C(1) << 1)
 #define PILLAR_ALARM_PROGRAM_MEMORY_ERROR (UINT32_C(1) << 8)
@@ -329,7 +375,7 @@ enum pillar_logged {
 #define PILLAR_ALARM_WATCHDOG_ERROR (UINT32_C(1) << 12)
 #define PILLAR_ALARM_FRAUD_ATTEMPT (UINT32_C(1) << 13)
 
-/* The bits that events set in the error register (003, Table 53); no call sets another. */
+/* The error bits that built-in events set (003, Table 53); an own table may name others. */
 #define PILLAR_ERROR_CLOCK_INVALID (UINT32_C(1) << 0)
 #define PILLAR_ERROR_REPLACE_BATTERY (UINT32_C(1) << 1)
 #define PILLAR_ERROR_PROGRAM_MEMORY_ERROR (UINT32_C(1) << 8)
@@ -341,152 +387,192 @@ enum pillar_logged {
 /* ---- The functions of the archive ---------------------------------------- */
 
 /*
+ * Whether bytes are a good event table: PILLAR_REFUSED_TABLE_LENGTH; then by the
+ * first faulty line .._TABLE_CODE, then .._TABLE_LINE. Without a byte it is the
+ * first: the built-in table needs no test.
+ */
+uint32_t pillar_table(const uint8_t *table, size_t table_length);
+
+/*
  * Writes the page of a fresh meter into the first PILLAR_PAGE_SIZE bytes; bytes
- * past them stay. Answers PILLAR_REFUSED_CONTROL_MODE, .._THRESHOLD,
- * .._DURATION, then .._BUFFER.
+ * past them stay. Its logs are empty, so it is the same under every table.
+ * Answers PILLAR_REFUSED_CONTROL_MODE, .._THRESHOLD, .._DURATION, then
+ * .._BUFFER.
  */
 uint32_t pillar_fresh(uint8_t *page, size_t length, uint32_t control_mode,
                       int32_t threshold, uint32_t over_duration,
                       uint32_t under_duration, uint32_t clock);
 
 /*
- * One of the seventeen calls on the meter of a page, which is then the page of
- * the meter after it. `kind` is one of enum pillar_kind; 0 and any other is
- * PILLAR_REFUSED_KIND, whatever the page holds. Then it answers
- * PILLAR_REFUSED_PAGE_LENGTH, .._PAGE_PAIRS, .._PAGE_UNSOUND, then the refusals
- * of the call. Each kind has an inline function below.
+ * One of the seventeen calls on the meter of a page, under the page's table; the
+ * page is then that of the meter after the call. `kind` is one of enum
+ * pillar_kind; 0 and any other is PILLAR_REFUSED_KIND, whatever the page holds.
+ * Then it answers PILLAR_REFUSED_PAGE_LENGTH, .._PAGE_PAIRS, .._PAGE_UNSOUND,
+ * then the refusals of the call. Each kind has an inline function below.
  *
  * Into *letter it stores the letter of the move that it made, one of enum
  * pillar_letter: always, so that a refused call leaves PILLAR_LETTER_NONE there.
  */
-uint32_t pillar_call(uint8_t *page, size_t length, uint32_t kind, uint32_t n1,
+uint32_t pillar_call(uint8_t *page, size_t length, const uint8_t *table,
+                     size_t table_length, uint32_t kind, uint32_t n1,
                      uint32_t n2, uint32_t n3, uint32_t n4, uint32_t n5,
                      uint8_t *letter);
 
 /*
- * Runs a whole list of records of PILLAR_RECORD_SIZE bytes: the kind, then five
+ * Runs a whole list of records of PILLAR_RECORD_SIZE bytes, all of it and the
+ * page that it leaves under one table. A record is the kind, then five
  * big-endian numbers of 32 bits. The first is PILLAR_KIND_FRESH (control mode,
  * threshold, over duration, under duration, clock); the others are calls,
  * refused ones among them. Writes the page of the list's history into the first
  * PILLAR_PAGE_SIZE bytes of `page`; bytes past them stay. Answers
  * PILLAR_REFUSED_LIST_EMPTY, .._LIST_SHORT (the first record), .._LIST_BAD, the
- * refusals of fresh, .._LIST_SHORT (a later record), then .._BUFFER. The two
- * ranges of bytes must not overlap.
+ * refusals of fresh, .._LIST_SHORT (a later record), then .._BUFFER. The page
+ * must overlap neither the records nor the table.
  */
 uint32_t pillar_replay(const uint8_t *records, size_t records_length,
+                       const uint8_t *table, size_t table_length,
                        uint8_t *page, size_t page_length);
 
 /*
- * Whether pillar_call can read a page: PILLAR_REFUSED_PAGE_LENGTH,
+ * Whether pillar_call can read a page under a table: PILLAR_REFUSED_PAGE_LENGTH,
  * .._PAGE_PAIRS, .._PAGE_UNSOUND.
  */
-uint32_t pillar_check(const uint8_t *page, size_t length);
+uint32_t pillar_check(const uint8_t *page, size_t length, const uint8_t *table,
+                      size_t table_length);
 
 /* ---- The seventeen calls by name -----------------------------------------
  *
- * Each is pillar_call with its kind, and answers as it does. Numbers go over
- * whole: a control mode of 256 is refused, and never taken for 0. Those that can
- * make a move with a letter (the sample, the requests, the script) store it as
- * pillar_call does; the others never make one, also where control mode 0 closes
- * the switch, and take no `letter`.
+ * Each is pillar_call with its kind, under the page's table, and answers as it
+ * does. Numbers go over whole: a control mode of 256 is refused, and never taken
+ * for 0. Those that can make a move with a letter (the sample, the requests, the
+ * script) store it as pillar_call does; the others never make one, also where
+ * control mode 0 closes the switch, and take no `letter`.
  */
 
 /* One second's power in watts; export is negative. */
-static inline uint32_t pillar_sample(uint8_t *page, size_t length, int32_t watts, uint8_t *letter)
+static inline uint32_t pillar_sample(uint8_t *page, size_t length, const uint8_t *table,
+                                     size_t table_length, int32_t watts, uint8_t *letter)
 {
-    return pillar_call(page, length, PILLAR_KIND_SAMPLE, (uint32_t)watts, 0, 0, 0, 0, letter);
+    return pillar_call(page, length, table, table_length, PILLAR_KIND_SAMPLE, (uint32_t)watts, 0,
+                       0, 0, 0, letter);
 }
 
 /* The network centre's requests. */
-static inline uint32_t pillar_remote_disconnect(uint8_t *page, size_t length, uint8_t *letter)
+static inline uint32_t pillar_remote_disconnect(uint8_t *page, size_t length, const uint8_t *table,
+                                                size_t table_length, uint8_t *letter)
 {
-    return pillar_call(page, length, PILLAR_KIND_REMOTE_DISCONNECT, 0, 0, 0, 0, 0, letter);
+    return pillar_call(page, length, table, table_length, PILLAR_KIND_REMOTE_DISCONNECT, 0, 0, 0,
+                       0, 0, letter);
 }
 
-static inline uint32_t pillar_remote_reconnect(uint8_t *page, size_t length, uint8_t *letter)
+static inline uint32_t pillar_remote_reconnect(uint8_t *page, size_t length, const uint8_t *table,
+                                               size_t table_length, uint8_t *letter)
 {
-    return pillar_call(page, length, PILLAR_KIND_REMOTE_RECONNECT, 0, 0, 0, 0, 0, letter);
+    return pillar_call(page, length, table, table_length, PILLAR_KIND_REMOTE_RECONNECT, 0, 0, 0, 0,
+                       0, letter);
 }
 
 /* The holder's, by the key. */
-static inline uint32_t pillar_manual_disconnect(uint8_t *page, size_t length, uint8_t *letter)
+static inline uint32_t pillar_manual_disconnect(uint8_t *page, size_t length, const uint8_t *table,
+                                                size_t table_length, uint8_t *letter)
 {
-    return pillar_call(page, length, PILLAR_KIND_MANUAL_DISCONNECT, 0, 0, 0, 0, 0, letter);
+    return pillar_call(page, length, table, table_length, PILLAR_KIND_MANUAL_DISCONNECT, 0, 0, 0,
+                       0, 0, letter);
 }
 
-static inline uint32_t pillar_manual_reconnect(uint8_t *page, size_t length, uint8_t *letter)
+static inline uint32_t pillar_manual_reconnect(uint8_t *page, size_t length, const uint8_t *table,
+                                               size_t table_length, uint8_t *letter)
 {
-    return pillar_call(page, length, PILLAR_KIND_MANUAL_RECONNECT, 0, 0, 0, 0, 0, letter);
+    return pillar_call(page, length, table, table_length, PILLAR_KIND_MANUAL_RECONNECT, 0, 0, 0, 0,
+                       0, letter);
 }
 
-static inline uint32_t pillar_set_control_mode(uint8_t *page, size_t length, uint32_t control_mode)
+static inline uint32_t pillar_set_control_mode(uint8_t *page, size_t length, const uint8_t *table,
+                                               size_t table_length, uint32_t control_mode)
 {
     uint8_t none;
-    return pillar_call(page, length, PILLAR_KIND_SET_CONTROL_MODE, control_mode, 0, 0, 0, 0, &none);
+    return pillar_call(page, length, table, table_length, PILLAR_KIND_SET_CONTROL_MODE,
+                       control_mode, 0, 0, 0, 0, &none);
 }
 
 /*
  * The threshold in watts, 0 or more; both durations in samples, 1 to 86400. The
  * threshold of an active emergency profile stays in force.
  */
-static inline uint32_t pillar_set_limiter(uint8_t *page, size_t length, int32_t threshold,
+static inline uint32_t pillar_set_limiter(uint8_t *page, size_t length, const uint8_t *table,
+                                          size_t table_length, int32_t threshold,
                                           uint32_t over_duration, uint32_t under_duration)
 {
     uint8_t none;
-    return pillar_call(page, length, PILLAR_KIND_SET_LIMITER, (uint32_t)threshold, over_duration,
-                       under_duration, 0, 0, &none);
+    return pillar_call(page, length, table, table_length, PILLAR_KIND_SET_LIMITER,
+                       (uint32_t)threshold, over_duration, under_duration, 0, 0, &none);
 }
 
-static inline uint32_t pillar_set_clock(uint8_t *page, size_t length, uint32_t seconds)
+static inline uint32_t pillar_set_clock(uint8_t *page, size_t length, const uint8_t *table,
+                                        size_t table_length, uint32_t seconds)
 {
     uint8_t none;
-    return pillar_call(page, length, PILLAR_KIND_SET_CLOCK, seconds, 0, 0, 0, 0, &none);
+    return pillar_call(page, length, table, table_length, PILLAR_KIND_SET_CLOCK, seconds, 0, 0, 0,
+                       0, &none);
 }
 
-/* A code of enum pillar_event. */
-static inline uint32_t pillar_report_event(uint8_t *page, size_t length, uint32_t code)
+/* A code of the table: with the built-in one, of enum pillar_event. */
+static inline uint32_t pillar_report_event(uint8_t *page, size_t length, const uint8_t *table,
+                                           size_t table_length, uint32_t code)
 {
     uint8_t none;
-    return pillar_call(page, length, PILLAR_KIND_REPORT_EVENT, code, 0, 0, 0, 0, &none);
+    return pillar_call(page, length, table, table_length, PILLAR_KIND_REPORT_EVENT, code, 0, 0, 0,
+                       0, &none);
 }
 
 /* A one hides its bit from later events; bits that are set stay set. */
-static inline uint32_t pillar_set_alarm_filter(uint8_t *page, size_t length, uint32_t filter)
+static inline uint32_t pillar_set_alarm_filter(uint8_t *page, size_t length, const uint8_t *table,
+                                               size_t table_length, uint32_t filter)
 {
     uint8_t none;
-    return pillar_call(page, length, PILLAR_KIND_SET_ALARM_FILTER, filter, 0, 0, 0, 0, &none);
+    return pillar_call(page, length, table, table_length, PILLAR_KIND_SET_ALARM_FILTER, filter, 0,
+                       0, 0, 0, &none);
 }
 
-static inline uint32_t pillar_set_error_filter(uint8_t *page, size_t length, uint32_t filter)
+static inline uint32_t pillar_set_error_filter(uint8_t *page, size_t length, const uint8_t *table,
+                                               size_t table_length, uint32_t filter)
 {
     uint8_t none;
-    return pillar_call(page, length, PILLAR_KIND_SET_ERROR_FILTER, filter, 0, 0, 0, 0, &none);
+    return pillar_call(page, length, table, table_length, PILLAR_KIND_SET_ERROR_FILTER, filter, 0,
+                       0, 0, 0, &none);
 }
 
 /* The ones of the mask are cleared. */
-static inline uint32_t pillar_clear_alarms(uint8_t *page, size_t length, uint32_t mask)
+static inline uint32_t pillar_clear_alarms(uint8_t *page, size_t length, const uint8_t *table,
+                                           size_t table_length, uint32_t mask)
 {
     uint8_t none;
-    return pillar_call(page, length, PILLAR_KIND_CLEAR_ALARMS, mask, 0, 0, 0, 0, &none);
+    return pillar_call(page, length, table, table_length, PILLAR_KIND_CLEAR_ALARMS, mask, 0, 0, 0,
+                       0, &none);
 }
 
-static inline uint32_t pillar_clear_errors(uint8_t *page, size_t length, uint32_t mask)
+static inline uint32_t pillar_clear_errors(uint8_t *page, size_t length, const uint8_t *table,
+                                           size_t table_length, uint32_t mask)
 {
     uint8_t none;
-    return pillar_call(page, length, PILLAR_KIND_CLEAR_ERRORS, mask, 0, 0, 0, 0, &none);
+    return pillar_call(page, length, table, table_length, PILLAR_KIND_CLEAR_ERRORS, mask, 0, 0, 0,
+                       0, &none);
 }
 
 /* The log then holds one line, PILLAR_LOGGED_EVENT_LOG_CLEARED. */
-static inline uint32_t pillar_clear_log(uint8_t *page, size_t length, uint32_t log)
+static inline uint32_t pillar_clear_log(uint8_t *page, size_t length, const uint8_t *table,
+                                        size_t table_length, uint32_t log)
 {
     uint8_t none;
-    return pillar_call(page, length, PILLAR_KIND_CLEAR_LOG, log, 0, 0, 0, 0, &none);
+    return pillar_call(page, length, table, table_length, PILLAR_KIND_CLEAR_LOG, log, 0, 0, 0, 0,
+                       &none);
 }
 
-static inline uint32_t pillar_execute_script(uint8_t *page, size_t length, uint32_t script,
-                                             uint8_t *letter)
+static inline uint32_t pillar_execute_script(uint8_t *page, size_t length, const uint8_t *table,
+                                             size_t table_length, uint32_t script, uint8_t *letter)
 {
-    return pillar_call(page, length, PILLAR_KIND_EXECUTE_SCRIPT, script, 0, 0, 0, 0, letter);
+    return pillar_call(page, length, table, table_length, PILLAR_KIND_EXECUTE_SCRIPT, script, 0, 0,
+                       0, 0, letter);
 }
 
 /*
@@ -495,14 +581,15 @@ static inline uint32_t pillar_execute_script(uint8_t *page, size_t length, uint3
  * active. A count above PILLAR_GROUPS is PILLAR_REFUSED_GROUP_COUNT, and no more
  * than PILLAR_GROUPS ids are read.
  */
-static inline uint32_t pillar_set_groups(uint8_t *page, size_t length, const uint16_t *ids,
-                                         uint32_t count)
+static inline uint32_t pillar_set_groups(uint8_t *page, size_t length, const uint8_t *table,
+                                         size_t table_length, const uint16_t *ids, uint32_t count)
 {
     uint8_t none;
     uint32_t n[PILLAR_GROUPS / 2] = {0};
     for (uint32_t i = 0; i < count && i < PILLAR_GROUPS; i++)
         n[i / 2] |= (uint32_t)ids[i] << (i % 2 == 0 ? 16 : 0);
-    return pillar_call(page, length, PILLAR_KIND_SET_GROUPS, count, n[0], n[1], n[2], n[3], &none);
+    return pillar_call(page, length, table, table_length, PILLAR_KIND_SET_GROUPS, count, n[0],
+                       n[1], n[2], n[3], &none);
 }
 
 /*
@@ -513,13 +600,13 @@ static inline uint32_t pillar_set_groups(uint8_t *page, size_t length, const uin
  * force again at once. The id is one of the groups', else it is
  * PILLAR_REFUSED_GROUP_ID; then PILLAR_REFUSED_PROFILE.
  */
-static inline uint32_t pillar_set_profile(uint8_t *page, size_t length, uint32_t id,
-                                          int32_t threshold, uint32_t activation_time,
-                                          uint32_t duration)
+static inline uint32_t pillar_set_profile(uint8_t *page, size_t length, const uint8_t *table,
+                                          size_t table_length, uint32_t id, int32_t threshold,
+                                          uint32_t activation_time, uint32_t duration)
 {
     uint8_t none;
-    return pillar_call(page, length, PILLAR_KIND_SET_PROFILE, id, (uint32_t)threshold,
-                       activation_time, duration, 0, &none);
+    return pillar_call(page, length, table, table_length, PILLAR_KIND_SET_PROFILE, id,
+                       (uint32_t)threshold, activation_time, duration, 0, &none);
 }
 
 /* ---- Reading off a page --------------------------------------------------
@@ -639,7 +726,7 @@ static inline uint8_t pillar_get_log_count(const uint8_t *page, uint32_t log)
     return page[PILLAR_OFFSET_LOG_COUNT(log)];
 }
 
-/* A line of a log. Its code is of enum pillar_event or enum pillar_logged. */
+/* A line of a log. Its code is of the page's table or of enum pillar_logged. */
 struct pillar_line {
     uint32_t clock;
     uint8_t code;

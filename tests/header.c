@@ -19,7 +19,12 @@ static uint8_t page[ROOM];
 /* What the latest call has stored. */
 static uint8_t letter;
 
+/* No byte: the built-in table. */
+static const uint8_t no_table[1] = {0};
+
 #define PAGE page, PILLAR_PAGE_SIZE
+#define BUILT_IN no_table, 0
+#define METER PAGE, BUILT_IN
 #define COUNT_OF(array) (sizeof(array) / sizeof(array)[0])
 
 static unsigned differences;
@@ -57,10 +62,10 @@ static void sizes(void)
     SAME(PILLAR_PAGE_SIZE, at);
     fresh(0);
     for (at = 0; at <= ROOM; at++)
-        SAME(at == PILLAR_PAGE_SIZE ? PILLAR_ACCEPTED : PILLAR_REFUSED_PAGE_LENGTH, pillar_check(page, at));
+        SAME(at == PILLAR_PAGE_SIZE ? PILLAR_ACCEPTED : PILLAR_REFUSED_PAGE_LENGTH, pillar_check(page, at, BUILT_IN));
 
     at = 1;
-    while (at < ROOM && pillar_replay(zeros, at, PAGE) == PILLAR_REFUSED_LIST_SHORT)
+    while (at < ROOM && pillar_replay(zeros, at, BUILT_IN, PAGE) == PILLAR_REFUSED_LIST_SHORT)
         at++;
     SAME(PILLAR_RECORD_SIZE, at);
 }
@@ -124,8 +129,8 @@ static void put(uint32_t offset, uint32_t number)
 static void fields(void)
 {
     ACCEPTED(pillar_fresh(PAGE, PILLAR_CONTROL_MODE_5, 0x01020304, 0x010506, 0x010708, 0x090a0b0c));
-    ACCEPTED(pillar_set_alarm_filter(PAGE, 0x11121314));
-    ACCEPTED(pillar_set_error_filter(PAGE, 0x21222324));
+    ACCEPTED(pillar_set_alarm_filter(METER, 0x11121314));
+    ACCEPTED(pillar_set_error_filter(METER, 0x21222324));
     FIELD(CONTROL_MODE, PILLAR_CONTROL_MODE_5, pillar_get_control_mode(page));
     FIELD(CONTROL_STATE, PILLAR_CONTROL_STATE_CONNECTED, pillar_get_control_state(page));
     FIELD(OPENINGS, 0, pillar_get_openings(page));
@@ -141,9 +146,9 @@ static void fields(void)
     FIELD(ERROR_REGISTER, 0, pillar_get_error_register(page));
     FIELD(ERROR_FILTER, 0x21222324, pillar_get_error_filter(page));
 
-    ACCEPTED(pillar_set_control_mode(PAGE, PILLAR_CONTROL_MODE_6));
-    ACCEPTED(pillar_set_limiter(PAGE, 0x7f414243, 0x015180, 0x014748));
-    ACCEPTED(pillar_set_clock(PAGE, 0xf9fafbfc));
+    ACCEPTED(pillar_set_control_mode(METER, PILLAR_CONTROL_MODE_6));
+    ACCEPTED(pillar_set_limiter(METER, 0x7f414243, 0x015180, 0x014748));
+    ACCEPTED(pillar_set_clock(METER, 0xf9fafbfc));
     FIELD(CONTROL_MODE, PILLAR_CONTROL_MODE_6, pillar_get_control_mode(page));
     FIELD(THRESHOLD, 0x7f414243, (uint32_t)pillar_get_threshold(page));
     FIELD(OVER_DURATION, 0x015180, pillar_get_over_duration(page));
@@ -152,11 +157,11 @@ static void fields(void)
 
     /* A run of three bytes, and its end. */
     for (uint32_t i = 0; i < 0x010203; i++)
-        ACCEPTED(pillar_sample(PAGE, 0x7f414244, &letter));
+        ACCEPTED(pillar_sample(METER, 0x7f414244, &letter));
     FIELD(RUN, 0x010203, pillar_get_run(page));
     FIELD(CLOCK, 0xf9fafbfc + 0x010203, pillar_get_clock(page));
     for (uint32_t i = 0x010203; i < 0x015180; i++)
-        ACCEPTED(pillar_sample(PAGE, 0x7f414244, &letter));
+        ACCEPTED(pillar_sample(METER, 0x7f414244, &letter));
     FIELD(RUN, 0, pillar_get_run(page));
     FIELD(EXCEEDED, 1, pillar_get_exceeded(page));
     FIELD(OPENINGS, 1, pillar_get_openings(page));
@@ -168,9 +173,9 @@ static void fields(void)
     put(PILLAR_OFFSET_ALARM_REGISTER, 0xffffffff);
     page[PILLAR_OFFSET_ALARM_COUNT] = 32;
     put(PILLAR_OFFSET_ERROR_REGISTER, 0xffffffff);
-    ACCEPTED(pillar_remote_disconnect(PAGE, &letter));
-    ACCEPTED(pillar_clear_alarms(PAGE, 0x01020304));
-    ACCEPTED(pillar_clear_errors(PAGE, 0x11121314));
+    ACCEPTED(pillar_remote_disconnect(METER, &letter));
+    ACCEPTED(pillar_clear_alarms(METER, 0x01020304));
+    ACCEPTED(pillar_clear_errors(METER, 0x11121314));
     FIELD(OPENINGS, 0x01000000, pillar_get_openings(page));
     FIELD(ALARM_REGISTER, 0xfefdfcfb, pillar_get_alarm_register(page));
     FIELD(ALARM_COUNT, 27, pillar_get_alarm_count(page));
@@ -218,9 +223,9 @@ static void logs(void)
 {
     ACCEPTED(pillar_fresh(PAGE, PILLAR_CONTROL_MODE_1, 0, 1, 1, clock_after(0)));
     for (uint32_t settings = 1; settings < 3 * PILLAR_LINES_PER_LOG; settings++) {
-        ACCEPTED(pillar_set_clock(PAGE, clock_after(settings)));
-        ACCEPTED(pillar_report_event(PAGE, line_owed(PILLAR_LOG_FRAUD, settings - 1).code));
-        ACCEPTED(pillar_set_limiter(PAGE, 0, 1, 1));
+        ACCEPTED(pillar_set_clock(METER, clock_after(settings)));
+        ACCEPTED(pillar_report_event(METER, line_owed(PILLAR_LOG_FRAUD, settings - 1).code));
+        ACCEPTED(pillar_set_limiter(METER, 0, 1, 1));
         log_holds(PILLAR_LOG_STANDARD, 2 * settings);
         log_holds(PILLAR_LOG_FRAUD, settings);
         log_holds(PILLAR_LOG_DISCONNECT, settings);
@@ -231,7 +236,7 @@ static void logs(void)
     /* Each log is cleared by its number, and no other number is one. */
     for (at = 0; at < 300; at++) {
         fresh(0);
-        SAME(at - 1 < PILLAR_LOGS ? PILLAR_ACCEPTED : PILLAR_REFUSED_LOG, pillar_clear_log(PAGE, at));
+        SAME(at - 1 < PILLAR_LOGS ? PILLAR_ACCEPTED : PILLAR_REFUSED_LOG, pillar_clear_log(METER, at));
         for (uint32_t log = 1; log <= PILLAR_LOGS; log++)
             SAME(pillar_get_log_count(page, log), log == at);
     }
@@ -293,7 +298,7 @@ static void reports(void)
         const struct event *event = event_of(at);
         fresh(0);
         memcpy(before, page, sizeof before);
-        SAME(event ? PILLAR_ACCEPTED : PILLAR_REFUSED_EVENT_CODE, pillar_report_event(PAGE, at));
+        SAME(event ? PILLAR_ACCEPTED : PILLAR_REFUSED_EVENT_CODE, pillar_report_event(METER, at));
         if (!event) {
             same(__LINE__, "whether a refusal changes the page", 0, memcmp(page, before, sizeof before) != 0);
             continue;
@@ -316,7 +321,7 @@ static void alarms_stand(int line, uint32_t number)
     same(line, "alarms standing", standing, number);
     for (uint32_t count = 0; count < 256; count++) {
         page[PILLAR_OFFSET_ALARM_COUNT] = (uint8_t)count;
-        same(line, "a count of alarms", count == number ? PILLAR_ACCEPTED : PILLAR_REFUSED_PAGE_UNSOUND, pillar_check(PAGE));
+        same(line, "a count of alarms", count == number ? PILLAR_ACCEPTED : PILLAR_REFUSED_PAGE_UNSOUND, pillar_check(METER));
     }
     page[PILLAR_OFFSET_ALARM_COUNT] = (uint8_t)number;
 }
@@ -329,24 +334,24 @@ static void alarm_count(void)
     const uint32_t all = UINT32_MAX;
     fresh(0);
     ALARMS_STAND(0);
-    ACCEPTED(pillar_report_event(PAGE, PILLAR_EVENT_RAM_ERROR));
-    ACCEPTED(pillar_report_event(PAGE, PILLAR_EVENT_RAM_ERROR));
+    ACCEPTED(pillar_report_event(METER, PILLAR_EVENT_RAM_ERROR));
+    ACCEPTED(pillar_report_event(METER, PILLAR_EVENT_RAM_ERROR));
     ALARMS_STAND(1);
-    ACCEPTED(pillar_report_event(PAGE, PILLAR_EVENT_TERMINAL_COVER_REMOVED));
-    ACCEPTED(pillar_report_event(PAGE, PILLAR_EVENT_METER_COVER_REMOVED));
+    ACCEPTED(pillar_report_event(METER, PILLAR_EVENT_TERMINAL_COVER_REMOVED));
+    ACCEPTED(pillar_report_event(METER, PILLAR_EVENT_METER_COVER_REMOVED));
     ALARMS_STAND(2);
-    ACCEPTED(pillar_set_alarm_filter(PAGE, all));
+    ACCEPTED(pillar_set_alarm_filter(METER, all));
     ALARMS_STAND(2);
-    ACCEPTED(pillar_report_event(PAGE, PILLAR_EVENT_WATCHDOG_ERROR));
+    ACCEPTED(pillar_report_event(METER, PILLAR_EVENT_WATCHDOG_ERROR));
     ALARMS_STAND(2);
-    ACCEPTED(pillar_set_alarm_filter(PAGE, 0));
-    ACCEPTED(pillar_report_event(PAGE, PILLAR_EVENT_WATCHDOG_ERROR));
+    ACCEPTED(pillar_set_alarm_filter(METER, 0));
+    ACCEPTED(pillar_report_event(METER, PILLAR_EVENT_WATCHDOG_ERROR));
     ALARMS_STAND(3);
-    ACCEPTED(pillar_clear_errors(PAGE, all));
+    ACCEPTED(pillar_clear_errors(METER, all));
     ALARMS_STAND(3);
-    ACCEPTED(pillar_clear_alarms(PAGE, ~(PILLAR_ALARM_RAM_ERROR | PILLAR_ALARM_WATCHDOG_ERROR)));
+    ACCEPTED(pillar_clear_alarms(METER, ~(PILLAR_ALARM_RAM_ERROR | PILLAR_ALARM_WATCHDOG_ERROR)));
     ALARMS_STAND(2);
-    ACCEPTED(pillar_clear_alarms(PAGE, all));
+    ACCEPTED(pillar_clear_alarms(METER, all));
     ALARMS_STAND(0);
 }
 
@@ -391,10 +396,10 @@ static void codes(void)
 {
     for (uint32_t log = 1; log <= PILLAR_LOGS; log++) {
         fresh(0);
-        ACCEPTED(pillar_clear_log(PAGE, log));
+        ACCEPTED(pillar_clear_log(METER, log));
         for (at = 0; at < 256; at++) {
             page[PILLAR_OFFSET_LINE_CODE(log, 0)] = (uint8_t)at;
-            SAME(has_name(log, at) ? PILLAR_ACCEPTED : PILLAR_REFUSED_PAGE_UNSOUND, pillar_check(PAGE));
+            SAME(has_name(log, at) ? PILLAR_ACCEPTED : PILLAR_REFUSED_PAGE_UNSOUND, pillar_check(METER));
         }
     }
 }
@@ -403,38 +408,212 @@ static void codes(void)
 static void lines(void)
 {
     fresh(PILLAR_CONTROL_MODE_2);
-    ACCEPTED(pillar_clear_alarms(PAGE, 0));
+    ACCEPTED(pillar_clear_alarms(METER, 0));
     SAME(PILLAR_LOGGED_ALARM_REGISTER_CLEARED, latest(PILLAR_LOG_STANDARD));
-    ACCEPTED(pillar_clear_errors(PAGE, 0));
+    ACCEPTED(pillar_clear_errors(METER, 0));
     SAME(PILLAR_LOGGED_ERROR_REGISTER_CLEARED, latest(PILLAR_LOG_STANDARD));
-    ACCEPTED(pillar_set_clock(PAGE, 7));
+    ACCEPTED(pillar_set_clock(METER, 7));
     SAME(PILLAR_LOGGED_CLOCK_ADJUSTED_OLD_DATE_TIME, pillar_get_log_line(page, PILLAR_LOG_STANDARD, 2).code);
     SAME(PILLAR_LOGGED_CLOCK_ADJUSTED_NEW_DATE_TIME, latest(PILLAR_LOG_STANDARD));
-    ACCEPTED(pillar_remote_disconnect(PAGE, &letter));
+    ACCEPTED(pillar_remote_disconnect(METER, &letter));
     SAME(PILLAR_LOGGED_REMOTE_DISCONNECTION, latest(PILLAR_LOG_DISCONNECT));
-    ACCEPTED(pillar_remote_reconnect(PAGE, &letter));
+    ACCEPTED(pillar_remote_reconnect(METER, &letter));
     SAME(PILLAR_LOGGED_REMOTE_CONNECTION, latest(PILLAR_LOG_DISCONNECT));
-    ACCEPTED(pillar_manual_disconnect(PAGE, &letter));
+    ACCEPTED(pillar_manual_disconnect(METER, &letter));
     SAME(PILLAR_LOGGED_MANUAL_DISCONNECTION, latest(PILLAR_LOG_DISCONNECT));
-    ACCEPTED(pillar_manual_reconnect(PAGE, &letter));
+    ACCEPTED(pillar_manual_reconnect(METER, &letter));
     SAME(PILLAR_LOGGED_MANUAL_CONNECTION, latest(PILLAR_LOG_DISCONNECT));
-    ACCEPTED(pillar_set_limiter(PAGE, 0, 1, 1));
+    ACCEPTED(pillar_set_limiter(METER, 0, 1, 1));
     SAME(PILLAR_LOGGED_LIMITER_THRESHOLD_CHANGED, latest(PILLAR_LOG_DISCONNECT));
 
     fresh(PILLAR_CONTROL_MODE_6);
-    ACCEPTED(pillar_sample(PAGE, 1, &letter));
+    ACCEPTED(pillar_sample(METER, 1, &letter));
     SAME(PILLAR_LOGGED_LIMITER_THRESHOLD_EXCEEDED, pillar_get_log_line(page, PILLAR_LOG_DISCONNECT, 0).code);
     SAME(PILLAR_LOGGED_LOCAL_DISCONNECTION, latest(PILLAR_LOG_DISCONNECT));
-    ACCEPTED(pillar_sample(PAGE, 0, &letter));
+    ACCEPTED(pillar_sample(METER, 0, &letter));
     SAME(PILLAR_LOGGED_LIMITER_THRESHOLD_OK, pillar_get_log_line(page, PILLAR_LOG_DISCONNECT, 2).code);
     SAME(PILLAR_LOGGED_LOCAL_RECONNECTION, latest(PILLAR_LOG_DISCONNECT));
-    ACCEPTED(pillar_remote_disconnect(PAGE, &letter));
-    ACCEPTED(pillar_remote_reconnect(PAGE, &letter));
+    ACCEPTED(pillar_remote_disconnect(METER, &letter));
+    ACCEPTED(pillar_remote_reconnect(METER, &letter));
     SAME(PILLAR_LOGGED_DISCONNECTER_READY_FOR_MANUAL_RECONNECTION, latest(PILLAR_LOG_DISCONNECT));
     for (uint32_t log = 1; log <= PILLAR_LOGS; log++) {
-        ACCEPTED(pillar_clear_log(PAGE, log));
+        ACCEPTED(pillar_clear_log(METER, log));
         SAME(PILLAR_LOGGED_EVENT_LOG_CLEARED, latest(log));
     }
+}
+
+/* ---- The event table ----------------------------------------------------- */
+
+/* Room for more lines than a table may have. */
+static uint8_t table[2 * 256 * PILLAR_TABLE_LINE_SIZE];
+
+static void put_line(uint32_t line, uint32_t code, uint32_t log, uint32_t alarm_bit, uint32_t error_bit)
+{
+    uint8_t *at_line = table + line * PILLAR_TABLE_LINE_SIZE;
+    at_line[0] = (uint8_t)code;
+    at_line[1] = (uint8_t)log;
+    at_line[2] = (uint8_t)alarm_bit;
+    at_line[3] = (uint8_t)error_bit;
+}
+
+/* Codes from 70 on, none of them barred, in the fraud log and without a bit. */
+static void put_lines(uint32_t lines)
+{
+    for (uint32_t i = 0; i < lines; i++)
+        put_line(i, 70 + i, PILLAR_LOG_FRAUD, PILLAR_TABLE_NO_BIT, PILLAR_TABLE_NO_BIT);
+}
+
+/* The lengths that are taken: every whole number of lines up to the most. */
+static void table_sizes(void)
+{
+    uint32_t shortest = 1;
+    uint32_t longest = 0;
+    put_lines(2 * PILLAR_TABLE_LINES);
+    while (shortest < sizeof table && pillar_table(table, shortest) == PILLAR_REFUSED_TABLE_LENGTH)
+        shortest++;
+    SAME(PILLAR_TABLE_LINE_SIZE, shortest);
+    for (at = 0; at <= 2 * PILLAR_TABLE_LINES * PILLAR_TABLE_LINE_SIZE; at++) {
+        bool whole = at > 0 && at % PILLAR_TABLE_LINE_SIZE == 0 && at / PILLAR_TABLE_LINE_SIZE <= PILLAR_TABLE_LINES;
+        uint32_t answer = pillar_table(table, at);
+        SAME(whole ? PILLAR_ACCEPTED : PILLAR_REFUSED_TABLE_LENGTH, answer);
+        if (answer == PILLAR_ACCEPTED)
+            longest = at;
+    }
+    SAME(PILLAR_TABLE_LINES * PILLAR_TABLE_LINE_SIZE, longest);
+}
+
+static bool is_logged(uint32_t code)
+{
+    for (size_t i = 0; i < COUNT_OF(logged); i++)
+        if (logged[i].code == code)
+            return true;
+    return false;
+}
+
+/* Each value of each byte of a line: the barred codes are those that the core logs by itself. */
+static void table_lines(void)
+{
+    for (at = 0; at < 256; at++) {
+        bool bit = at < 32 || at == PILLAR_TABLE_NO_BIT;
+        put_line(0, at, PILLAR_LOG_FRAUD, 0, 31);
+        SAME(is_logged(at) ? PILLAR_REFUSED_TABLE_CODE : PILLAR_ACCEPTED, pillar_table(table, PILLAR_TABLE_LINE_SIZE));
+        put_line(0, 1, at, 0, 31);
+        SAME(at - 1 < PILLAR_LOGS ? PILLAR_ACCEPTED : PILLAR_REFUSED_TABLE_LINE, pillar_table(table, PILLAR_TABLE_LINE_SIZE));
+        put_line(0, 1, PILLAR_LOG_FRAUD, at, 31);
+        SAME(bit ? PILLAR_ACCEPTED : PILLAR_REFUSED_TABLE_LINE, pillar_table(table, PILLAR_TABLE_LINE_SIZE));
+        put_line(0, 1, PILLAR_LOG_FRAUD, 0, at);
+        SAME(bit ? PILLAR_ACCEPTED : PILLAR_REFUSED_TABLE_LINE, pillar_table(table, PILLAR_TABLE_LINE_SIZE));
+
+        put_lines(2);
+        put_line(0, 128, PILLAR_LOG_FRAUD, 0, 31);
+        put_line(1, at, PILLAR_LOG_FRAUD, 0, 31);
+        SAME(at > 128 && !is_logged(at) ? PILLAR_ACCEPTED : PILLAR_REFUSED_TABLE_CODE, pillar_table(table, 2 * PILLAR_TABLE_LINE_SIZE));
+    }
+}
+
+/* Codes that are events of this table alone, one that it has otherwise than the built-in one, and their log. */
+static const struct event own_events[] = {
+    {0, PILLAR_LOG_STANDARD, UINT32_C(1) << 31, 0},
+    {PILLAR_EVENT_CLOCK_INVALID, PILLAR_LOG_DISCONNECT, UINT32_C(1) << 2, UINT32_C(1) << 3},
+    {254, PILLAR_LOG_FRAUD, 0, UINT32_C(1) << 0},
+};
+
+enum { OWN_LINES = COUNT_OF(own_events) };
+
+#define OWN PAGE, table, OWN_LINES * PILLAR_TABLE_LINE_SIZE
+
+static void put_own_table(void)
+{
+    put_line(0, 0, PILLAR_LOG_STANDARD, 31, PILLAR_TABLE_NO_BIT);
+    put_line(1, PILLAR_EVENT_CLOCK_INVALID, PILLAR_LOG_DISCONNECT, 2, 3);
+    put_line(2, 254, PILLAR_LOG_FRAUD, PILLAR_TABLE_NO_BIT, 0);
+}
+
+static const struct event *own_event_of(uint32_t code)
+{
+    for (size_t i = 0; i < COUNT_OF(own_events); i++)
+        if (own_events[i].code == code)
+            return &own_events[i];
+    return NULL;
+}
+
+/* Every code under the own table, as an event and in each log. */
+static void own_table(void)
+{
+    put_own_table();
+    ACCEPTED(pillar_table(table, OWN_LINES * PILLAR_TABLE_LINE_SIZE));
+    for (at = 0; at < 1024; at++) {
+        const struct event *event = own_event_of(at);
+        fresh(0);
+        SAME(event ? PILLAR_ACCEPTED : PILLAR_REFUSED_EVENT_CODE, pillar_report_event(OWN, at));
+        if (!event)
+            continue;
+        SAME(at, latest(event->log));
+        SAME(event->alarms, pillar_get_alarm_register(page));
+        SAME(event->errors, pillar_get_error_register(page));
+        ACCEPTED(pillar_check(OWN));
+        SAME(PILLAR_REFUSED_PAGE_UNSOUND, pillar_check(METER));
+    }
+    for (uint32_t log = 1; log <= PILLAR_LOGS; log++) {
+        fresh(0);
+        ACCEPTED(pillar_clear_log(OWN, log));
+        for (at = 0; at < 256; at++) {
+            const struct event *event = own_event_of(at);
+            bool good = event && event->log == log;
+            for (size_t i = 0; i < COUNT_OF(logged); i++)
+                good |= logged[i].log == log && logged[i].code == at;
+            page[PILLAR_OFFSET_LINE_CODE(log, 0)] = (uint8_t)at;
+            SAME(good ? PILLAR_ACCEPTED : PILLAR_REFUSED_PAGE_UNSOUND, pillar_check(OWN));
+        }
+    }
+}
+
+/* A list under the own table, and the calls by name under it. */
+static void own_calls(void)
+{
+    static uint8_t list[2 * PILLAR_RECORD_SIZE];
+    static uint8_t replayed[PILLAR_PAGE_SIZE];
+    put_own_table();
+    list[9 + 3] = list[13 + 3] = 1; /* both durations */
+    list[PILLAR_RECORD_SIZE] = PILLAR_KIND_REPORT_EVENT;
+    list[PILLAR_RECORD_SIZE + 4] = 254;
+    fresh(0);
+    ACCEPTED(pillar_report_event(OWN, 254));
+    ACCEPTED(pillar_replay(list, sizeof list, table, OWN_LINES * PILLAR_TABLE_LINE_SIZE, replayed, sizeof replayed));
+    SAME(0, (uint32_t)(memcmp(page, replayed, sizeof replayed) != 0));
+    ACCEPTED(pillar_replay(list, sizeof list, BUILT_IN, replayed, sizeof replayed));
+    SAME(1, (uint32_t)(memcmp(page, replayed, sizeof replayed) != 0));
+
+    /* Each call by name has the table: under the built-in one the page is refused. */
+    const uint16_t group = 7;
+    ACCEPTED(pillar_set_control_mode(OWN, PILLAR_CONTROL_MODE_5));
+    ACCEPTED(pillar_sample(OWN, 0, &letter));
+    ACCEPTED(pillar_remote_disconnect(OWN, &letter));
+    ACCEPTED(pillar_remote_reconnect(OWN, &letter));
+    ACCEPTED(pillar_manual_reconnect(OWN, &letter));
+    ACCEPTED(pillar_manual_disconnect(OWN, &letter));
+    ACCEPTED(pillar_execute_script(OWN, PILLAR_SCRIPT_REMOTE_DISCONNECT, &letter));
+    ACCEPTED(pillar_set_limiter(OWN, 0, 1, 1));
+    ACCEPTED(pillar_report_event(OWN, PILLAR_EVENT_CLOCK_INVALID));
+    SAME((UINT32_C(1) << 3) + 1, pillar_get_error_register(page));
+    ACCEPTED(pillar_set_clock(OWN, 7)); /* clears error bit 0, whichever event has raised it */
+    SAME(UINT32_C(1) << 3, pillar_get_error_register(page));
+    ACCEPTED(pillar_set_alarm_filter(OWN, 0));
+    ACCEPTED(pillar_set_error_filter(OWN, 0));
+    ACCEPTED(pillar_clear_alarms(OWN, 0));
+    ACCEPTED(pillar_clear_errors(OWN, 0));
+    ACCEPTED(pillar_set_groups(OWN, &group, 1));
+    ACCEPTED(pillar_set_profile(OWN, group, 0, 0, 1));
+    ACCEPTED(pillar_clear_log(OWN, PILLAR_LOG_STANDARD));
+    SAME(PILLAR_REFUSED_PAGE_UNSOUND, pillar_clear_log(METER, PILLAR_LOG_STANDARD));
+
+    /* With bytes that are no good table the built-in one serves. */
+    put_line(0, PILLAR_LOGGED_EVENT_LOG_CLEARED, PILLAR_LOG_STANDARD, 0, 0);
+    SAME(PILLAR_REFUSED_PAGE_UNSOUND, pillar_check(OWN));
+    fresh(0);
+    ACCEPTED(pillar_report_event(OWN, PILLAR_EVENT_CLOCK_INVALID));
+    SAME(PILLAR_ERROR_CLOCK_INVALID, pillar_get_error_register(page));
+    SAME(PILLAR_REFUSED_EVENT_CODE, pillar_report_event(OWN, 254));
 }
 
 /* ---- The switch ---------------------------------------------------------- */
@@ -470,33 +649,33 @@ static void control_modes(void)
         const struct rule *rule = &rules[i];
         fresh(rule->control_mode);
         STANDS(CONNECTED);
-        ACCEPTED(pillar_execute_script(PAGE, PILLAR_SCRIPT_REMOTE_DISCONNECT, &letter));
+        ACCEPTED(pillar_execute_script(METER, PILLAR_SCRIPT_REMOTE_DISCONNECT, &letter));
         STANDS(DISCONNECTED);
-        ACCEPTED(pillar_execute_script(PAGE, PILLAR_SCRIPT_REMOTE_RECONNECT, &letter));
+        ACCEPTED(pillar_execute_script(METER, PILLAR_SCRIPT_REMOTE_RECONNECT, &letter));
         stands(__LINE__, rule->remote_reconnect_to);
-        ACCEPTED(pillar_manual_reconnect(PAGE, &letter));
+        ACCEPTED(pillar_manual_reconnect(METER, &letter));
         STANDS(CONNECTED);
-        SAME(rule->manual_disconnect ? PILLAR_ACCEPTED : PILLAR_REFUSED_MODE_RULE, pillar_manual_disconnect(PAGE, &letter));
+        SAME(rule->manual_disconnect ? PILLAR_ACCEPTED : PILLAR_REFUSED_MODE_RULE, pillar_manual_disconnect(METER, &letter));
         if (rule->manual_disconnect)
             STANDS(READY_FOR_RECONNECTION);
-        ACCEPTED(pillar_manual_reconnect(PAGE, &letter));
+        ACCEPTED(pillar_manual_reconnect(METER, &letter));
         STANDS(CONNECTED);
-        ACCEPTED(pillar_sample(PAGE, 1, &letter));
+        ACCEPTED(pillar_sample(METER, 1, &letter));
         STANDS(READY_FOR_RECONNECTION);
-        ACCEPTED(pillar_sample(PAGE, 0, &letter));
+        ACCEPTED(pillar_sample(METER, 0, &letter));
         if (rule->local_reconnect)
             STANDS(CONNECTED);
         else
             STANDS(READY_FOR_RECONNECTION);
-        ACCEPTED(pillar_set_control_mode(PAGE, PILLAR_CONTROL_MODE_NONE));
+        ACCEPTED(pillar_set_control_mode(METER, PILLAR_CONTROL_MODE_NONE));
         STANDS(CONNECTED);
     }
     fresh(PILLAR_CONTROL_MODE_NONE);
-    SAME(PILLAR_REFUSED_MODE_RULE, pillar_remote_disconnect(PAGE, &letter));
-    SAME(PILLAR_REFUSED_MODE_RULE, pillar_remote_reconnect(PAGE, &letter));
-    SAME(PILLAR_REFUSED_MODE_RULE, pillar_manual_disconnect(PAGE, &letter));
-    SAME(PILLAR_REFUSED_MODE_RULE, pillar_manual_reconnect(PAGE, &letter));
-    ACCEPTED(pillar_sample(PAGE, 1, &letter));
+    SAME(PILLAR_REFUSED_MODE_RULE, pillar_remote_disconnect(METER, &letter));
+    SAME(PILLAR_REFUSED_MODE_RULE, pillar_remote_reconnect(METER, &letter));
+    SAME(PILLAR_REFUSED_MODE_RULE, pillar_manual_disconnect(METER, &letter));
+    SAME(PILLAR_REFUSED_MODE_RULE, pillar_manual_reconnect(METER, &letter));
+    ACCEPTED(pillar_sample(METER, 1, &letter));
     STANDS(CONNECTED);
 }
 
@@ -547,21 +726,21 @@ static uint32_t answer_to(uint32_t request)
 {
     switch (request) {
     case REMOTE_DISCONNECT:
-        return pillar_remote_disconnect(PAGE, &letter);
+        return pillar_remote_disconnect(METER, &letter);
     case REMOTE_RECONNECT:
-        return pillar_remote_reconnect(PAGE, &letter);
+        return pillar_remote_reconnect(METER, &letter);
     case MANUAL_DISCONNECT:
-        return pillar_manual_disconnect(PAGE, &letter);
+        return pillar_manual_disconnect(METER, &letter);
     case MANUAL_RECONNECT:
-        return pillar_manual_reconnect(PAGE, &letter);
+        return pillar_manual_reconnect(METER, &letter);
     case LOCAL_DISCONNECT:
-        return pillar_sample(PAGE, 1, &letter);
+        return pillar_sample(METER, 1, &letter);
     case LOCAL_RECONNECT:
-        return pillar_sample(PAGE, 0, &letter);
+        return pillar_sample(METER, 0, &letter);
     case SCRIPT_DISCONNECT:
-        return pillar_execute_script(PAGE, PILLAR_SCRIPT_REMOTE_DISCONNECT, &letter);
+        return pillar_execute_script(METER, PILLAR_SCRIPT_REMOTE_DISCONNECT, &letter);
     default:
-        return pillar_execute_script(PAGE, PILLAR_SCRIPT_REMOTE_RECONNECT, &letter);
+        return pillar_execute_script(METER, PILLAR_SCRIPT_REMOTE_RECONNECT, &letter);
     }
 }
 
@@ -616,15 +795,15 @@ static void without_letter(void)
     for (at = PILLAR_KIND_SET_CONTROL_MODE; at <= PILLAR_KIND_CLEAR_LOG; at++) {
         uint32_t one = at != PILLAR_KIND_SET_CONTROL_MODE;
         fresh(PILLAR_CONTROL_MODE_1);
-        ACCEPTED(pillar_remote_disconnect(PAGE, &letter));
+        ACCEPTED(pillar_remote_disconnect(METER, &letter));
         SAME(PILLAR_LETTER_B, letter);
-        ACCEPTED(pillar_call(PAGE, at, one, 1, 1, 0, 0, &letter));
+        ACCEPTED(pillar_call(METER, at, one, 1, 1, 0, 0, &letter));
         SAME(PILLAR_LETTER_NONE, letter);
         stands(__LINE__, one ? PILLAR_CONTROL_STATE_DISCONNECTED : PILLAR_CONTROL_STATE_CONNECTED);
     }
     for (at = PILLAR_KIND_SET_GROUPS; at <= PILLAR_KIND_SET_PROFILE; at++) {
         letter = UNSTORED;
-        ACCEPTED(pillar_call(PAGE, at, 1, 0x10000, 1, 1, 0, &letter));
+        ACCEPTED(pillar_call(METER, at, 1, 0x10000, 1, 1, 0, &letter));
         SAME(PILLAR_LETTER_NONE, letter);
     }
 }
@@ -642,18 +821,18 @@ static void letter_refused(int line, uint32_t refusal, uint32_t answer)
 static void refused_letters(void)
 {
     fresh(PILLAR_CONTROL_MODE_3);
-    ACCEPTED(pillar_remote_disconnect(PAGE, &letter));
+    ACCEPTED(pillar_remote_disconnect(METER, &letter));
     SAME(PILLAR_LETTER_B, letter);
-    LETTER_REFUSED(MODE_RULE, pillar_manual_disconnect(PAGE, &letter));
-    LETTER_REFUSED(SCRIPT, pillar_execute_script(PAGE, 3, &letter));
-    LETTER_REFUSED(CONTROL_MODE, pillar_call(PAGE, PILLAR_KIND_SET_CONTROL_MODE, 7, 0, 0, 0, 0, &letter));
-    LETTER_REFUSED(KIND, pillar_call(PAGE, PILLAR_KIND_SET_PROFILE + 1, 0, 0, 0, 0, 0, &letter));
-    LETTER_REFUSED(PAGE_LENGTH, pillar_remote_reconnect(page, PILLAR_PAGE_SIZE - 1, &letter));
+    LETTER_REFUSED(MODE_RULE, pillar_manual_disconnect(METER, &letter));
+    LETTER_REFUSED(SCRIPT, pillar_execute_script(METER, 3, &letter));
+    LETTER_REFUSED(CONTROL_MODE, pillar_call(METER, PILLAR_KIND_SET_CONTROL_MODE, 7, 0, 0, 0, 0, &letter));
+    LETTER_REFUSED(KIND, pillar_call(METER, PILLAR_KIND_SET_PROFILE + 1, 0, 0, 0, 0, 0, &letter));
+    LETTER_REFUSED(PAGE_LENGTH, pillar_remote_reconnect(page, PILLAR_PAGE_SIZE - 1, BUILT_IN, &letter));
     page[0] ^= 1;
-    LETTER_REFUSED(PAGE_PAIRS, pillar_remote_reconnect(PAGE, &letter));
+    LETTER_REFUSED(PAGE_PAIRS, pillar_remote_reconnect(METER, &letter));
     page[0] ^= 1;
     page[PILLAR_OFFSET_CONTROL_STATE] = 3;
-    LETTER_REFUSED(PAGE_UNSOUND, pillar_remote_reconnect(PAGE, &letter));
+    LETTER_REFUSED(PAGE_UNSOUND, pillar_remote_reconnect(METER, &letter));
 }
 
 /* ---- The emergency profile and the groups -------------------------------- */
@@ -678,15 +857,15 @@ static void groups(void)
     fresh(0);
     groups_hold(0);
     for (at = 0; at <= PILLAR_GROUPS; at++) {
-        ACCEPTED(pillar_set_groups(PAGE, ids, at));
+        ACCEPTED(pillar_set_groups(METER, ids, at));
         groups_hold(at);
     }
     for (at = 0; at <= PILLAR_GROUPS; at++) {
-        ACCEPTED(pillar_set_groups(PAGE, ids, PILLAR_GROUPS - at));
+        ACCEPTED(pillar_set_groups(METER, ids, PILLAR_GROUPS - at));
         groups_hold(PILLAR_GROUPS - at);
     }
-    SAME(PILLAR_REFUSED_GROUP_COUNT, pillar_set_groups(PAGE, ids, PILLAR_GROUPS + 1));
-    SAME(PILLAR_REFUSED_GROUP_COUNT, pillar_set_groups(PAGE, ids, 256));
+    SAME(PILLAR_REFUSED_GROUP_COUNT, pillar_set_groups(METER, ids, PILLAR_GROUPS + 1));
+    SAME(PILLAR_REFUSED_GROUP_COUNT, pillar_set_groups(METER, ids, 256));
     groups_hold(0);
 }
 
@@ -721,30 +900,30 @@ static void emergency(void)
     const struct profile other = {0x0708, 0x7fffffff, 0xfffffffe, 604800};
     ACCEPTED(pillar_fresh(PAGE, PILLAR_CONTROL_MODE_1, 0x05060708, 1, 1, 0x11121312));
     PROFILE_HOLDS(NONE, none, 0);
-    SAME(PILLAR_REFUSED_GROUP_ID, pillar_set_profile(PAGE, 0, 0, 0, 1));
-    ACCEPTED(pillar_set_groups(PAGE, ids, 4));
-    SAME(PILLAR_REFUSED_GROUP_ID, pillar_set_profile(PAGE, 0x2b2c, 0, 0, 1));
-    SAME(PILLAR_REFUSED_GROUP_ID, pillar_set_profile(PAGE, 0x10000 + some.id, 0, 0, 1));
-    SAME(PILLAR_REFUSED_PROFILE, pillar_set_profile(PAGE, some.id, 0, 0, 0));
-    SAME(PILLAR_REFUSED_PROFILE, pillar_set_profile(PAGE, some.id, 0, 0, 604801));
-    SAME(PILLAR_REFUSED_PROFILE, pillar_set_profile(PAGE, some.id, -1, 0, 1));
+    SAME(PILLAR_REFUSED_GROUP_ID, pillar_set_profile(METER, 0, 0, 0, 1));
+    ACCEPTED(pillar_set_groups(METER, ids, 4));
+    SAME(PILLAR_REFUSED_GROUP_ID, pillar_set_profile(METER, 0x2b2c, 0, 0, 1));
+    SAME(PILLAR_REFUSED_GROUP_ID, pillar_set_profile(METER, 0x10000 + some.id, 0, 0, 1));
+    SAME(PILLAR_REFUSED_PROFILE, pillar_set_profile(METER, some.id, 0, 0, 0));
+    SAME(PILLAR_REFUSED_PROFILE, pillar_set_profile(METER, some.id, 0, 0, 604801));
+    SAME(PILLAR_REFUSED_PROFILE, pillar_set_profile(METER, some.id, -1, 0, 1));
     PROFILE_HOLDS(NONE, none, 0);
 
-    ACCEPTED(pillar_set_profile(PAGE, other.id, INT32_MAX, other.activation_time, other.duration));
+    ACCEPTED(pillar_set_profile(METER, other.id, INT32_MAX, other.activation_time, other.duration));
     PROFILE_HOLDS(WAITING, other, other.duration);
-    ACCEPTED(pillar_set_profile(PAGE, some.id, (int32_t)some.threshold, some.activation_time, some.duration));
+    ACCEPTED(pillar_set_profile(METER, some.id, (int32_t)some.threshold, some.activation_time, some.duration));
     PROFILE_HOLDS(WAITING, some, some.duration);
-    ACCEPTED(pillar_sample(PAGE, 0, &letter));
+    ACCEPTED(pillar_sample(METER, 0, &letter));
     PROFILE_HOLDS(WAITING, some, some.duration);
     SAME(pillar_get_log_count(page, PILLAR_LOG_DISCONNECT), 0);
     for (at = 1; at < some.duration; at++) {
-        ACCEPTED(pillar_sample(PAGE, 0, &letter));
+        ACCEPTED(pillar_sample(METER, 0, &letter));
         if (at == 1 || at == 2 || at > some.duration - 3)
             PROFILE_HOLDS(ACTIVE, some, some.duration - at);
     }
     SAME(PILLAR_LOGGED_LIMITER_THRESHOLD_CHANGED, latest(PILLAR_LOG_DISCONNECT));
     SAME(pillar_get_log_count(page, PILLAR_LOG_DISCONNECT), 1);
-    ACCEPTED(pillar_sample(PAGE, 0, &letter));
+    ACCEPTED(pillar_sample(METER, 0, &letter));
     PROFILE_HOLDS(NONE, none, 0);
     SAME(pillar_get_log_count(page, PILLAR_LOG_DISCONNECT), 2);
     FIELD(THRESHOLD, 0x05060708, (uint32_t)pillar_get_threshold(page));
@@ -759,13 +938,13 @@ static void kinds(void)
     for (at = 0; at < 300; at++) {
         bool known = at >= PILLAR_KIND_SAMPLE && at <= PILLAR_KIND_SET_PROFILE;
         letter = UNSTORED;
-        SAME(known ? PILLAR_REFUSED_PAGE_LENGTH : PILLAR_REFUSED_KIND, pillar_call(page, 0, at, 0, 0, 0, 0, 0, &letter));
+        SAME(known ? PILLAR_REFUSED_PAGE_LENGTH : PILLAR_REFUSED_KIND, pillar_call(page, 0, BUILT_IN, at, 0, 0, 0, 0, 0, &letter));
         SAME(PILLAR_LETTER_NONE, letter);
     }
     for (at = 0; at < 256; at++) {
         record[0] = (uint8_t)at;
         SAME(at == PILLAR_KIND_FRESH ? PILLAR_REFUSED_DURATION : PILLAR_REFUSED_LIST_BAD,
-             pillar_replay(record, sizeof record, PAGE));
+             pillar_replay(record, sizeof record, BUILT_IN, PAGE));
     }
 }
 
@@ -773,26 +952,26 @@ static void kinds(void)
 static void refusals(void)
 {
     fresh(PILLAR_CONTROL_MODE_1);
-    SAME(PILLAR_REFUSED_LIST_EMPTY, pillar_replay(page, 0, PAGE));
-    SAME(PILLAR_REFUSED_CONTROL_MODE, pillar_set_control_mode(PAGE, 7));
-    SAME(PILLAR_REFUSED_CONTROL_MODE, pillar_set_control_mode(PAGE, 256));
-    SAME(PILLAR_REFUSED_SCRIPT, pillar_execute_script(PAGE, 0, &letter));
-    SAME(PILLAR_REFUSED_SCRIPT, pillar_execute_script(PAGE, 3, &letter));
-    SAME(PILLAR_REFUSED_THRESHOLD, pillar_set_limiter(PAGE, -1, 1, 1));
-    SAME(PILLAR_REFUSED_THRESHOLD, pillar_set_limiter(PAGE, INT32_MIN, 1, 1));
-    SAME(PILLAR_REFUSED_DURATION, pillar_set_limiter(PAGE, 0, 0, 1));
-    SAME(PILLAR_REFUSED_DURATION, pillar_set_limiter(PAGE, 0, 1, 86401));
-    ACCEPTED(pillar_sample(PAGE, INT32_MIN, &letter));
-    ACCEPTED(pillar_sample(PAGE, -1, &letter));
+    SAME(PILLAR_REFUSED_LIST_EMPTY, pillar_replay(page, 0, BUILT_IN, PAGE));
+    SAME(PILLAR_REFUSED_CONTROL_MODE, pillar_set_control_mode(METER, 7));
+    SAME(PILLAR_REFUSED_CONTROL_MODE, pillar_set_control_mode(METER, 256));
+    SAME(PILLAR_REFUSED_SCRIPT, pillar_execute_script(METER, 0, &letter));
+    SAME(PILLAR_REFUSED_SCRIPT, pillar_execute_script(METER, 3, &letter));
+    SAME(PILLAR_REFUSED_THRESHOLD, pillar_set_limiter(METER, -1, 1, 1));
+    SAME(PILLAR_REFUSED_THRESHOLD, pillar_set_limiter(METER, INT32_MIN, 1, 1));
+    SAME(PILLAR_REFUSED_DURATION, pillar_set_limiter(METER, 0, 0, 1));
+    SAME(PILLAR_REFUSED_DURATION, pillar_set_limiter(METER, 0, 1, 86401));
+    ACCEPTED(pillar_sample(METER, INT32_MIN, &letter));
+    ACCEPTED(pillar_sample(METER, -1, &letter));
     STANDS(CONNECTED);
-    ACCEPTED(pillar_sample(PAGE, INT32_MAX, &letter));
+    ACCEPTED(pillar_sample(METER, INT32_MAX, &letter));
     STANDS(READY_FOR_RECONNECTION);
 
     page[0] ^= 1;
-    SAME(PILLAR_REFUSED_PAGE_PAIRS, pillar_check(PAGE));
+    SAME(PILLAR_REFUSED_PAGE_PAIRS, pillar_check(METER));
     page[0] ^= 1;
     page[PILLAR_OFFSET_CONTROL_STATE] = 3;
-    SAME(PILLAR_REFUSED_PAGE_UNSOUND, pillar_check(PAGE));
+    SAME(PILLAR_REFUSED_PAGE_UNSOUND, pillar_check(METER));
 }
 
 int main(void)
@@ -805,6 +984,10 @@ int main(void)
     alarm_count();
     codes();
     lines();
+    table_sizes();
+    table_lines();
+    own_table();
+    own_calls();
     control_modes();
     requests();
     without_letter();

@@ -1,7 +1,9 @@
-//! What the requests of document 02 are about: calls that meet a certain meter.
+//! What the requests of document 02 are about, but for A8: calls that meet a
+//! certain meter.
 
 use crate::call::Call;
 use crate::field::{self, ACTIVE, CONNECTED, EXCEEDED, MODE, READY, STATE, SWITCH, WAITING};
+use crate::table::{EventTable, NO_BIT};
 use pillar::PAGE;
 
 /// A call, and a meter that it meets.
@@ -90,8 +92,9 @@ impl Case {
         Case::ClearsOthers,
     ];
 
-    /// The case of this call on the meter of this page, if it is one.
-    pub fn of(call: Call, page: &[u8; PAGE]) -> Option<Case> {
+    /// The case of this call on the meter of this page under this table, if it is
+    /// one.
+    pub fn of(call: Call, page: &[u8; PAGE], table: &EventTable) -> Option<Case> {
         let active = page[STATE] == ACTIVE;
         match (call.kind, call.numbers[0]) {
             (1, power) if cuts_again(power as i32, page) => Some(Case::CutAgain),
@@ -100,7 +103,7 @@ impl Case {
             (5, _) => of_manual_reconnect(page),
             (7, _) if active => Some(Case::LimiterUnderProfile),
             (8, clock) => of_clock(clock, page),
-            (9, code) => of_event(code, page),
+            (9, code) => of_event(code, page, table),
             (10, filter) => of_alarm_filter(filter, page),
             (12, mask) => of_clear_alarms(mask, page),
             (15, 2) => of_remote_reconnect(page, Case::ClosesByScript),
@@ -210,18 +213,11 @@ fn of_clock(clock: u32, page: &[u8; PAGE]) -> Option<Case> {
 }
 
 /// Of the codes with an alarm bit.
-fn of_event(code: u32, page: &[u8; PAGE]) -> Option<Case> {
-    let bit = match code {
-        6 => 0,
-        7 => 1,
-        12 => 8,
-        13 => 9,
-        14 => 10,
-        15 => 12,
-        16 => 11,
-        40 | 42 | 44 => 13,
-        _ => return None,
-    };
+fn of_event(code: u32, page: &[u8; PAGE], table: &EventTable) -> Option<Case> {
+    let [_, _, bit, _] = table.line(code)?;
+    if bit == NO_BIT {
+        return None;
+    }
     let is_one = |register| field::get(page, register) >> bit & 1 == 1;
     Some(if is_one(field::ALARMS) {
         Case::RaisesStanding
@@ -285,7 +281,7 @@ mod tests {
 
     fn met(kind: u32, number: u32, page: &[u8; PAGE]) -> Option<Case> {
         let numbers = [number, 2, 2, 2, 2];
-        Case::of(Call { kind, numbers }, page)
+        Case::of(Call { kind, numbers }, page, &EventTable::built_in())
     }
 
     #[test]
@@ -420,10 +416,27 @@ mod tests {
     }
 
     #[test]
+    fn alarms_are_told_by_the_own_table() {
+        let table = EventTable::of(vec![6, 1, 31, 255, 7, 2, 255, 0, 9, 3, 5, 5]);
+        let mut page = page(5, CONNECTED);
+        field::put_alarms(&mut page, 1 << 31);
+        field::put(&mut page, field::ALARM_FILTER, 1 << 5);
+        let event = |code| {
+            let numbers = [code, 0, 0, 0, 0];
+            Case::of(Call { kind: 9, numbers }, &page, &table)
+        };
+        assert_eq!(event(6), Some(Case::RaisesStanding));
+        assert_eq!(event(7), None);
+        assert_eq!(event(9), Some(Case::RaisesHidden));
+        assert_eq!(event(12), None);
+        assert_eq!(event(256 + 6), None);
+    }
+
+    #[test]
     fn profiles_are_told_by_the_one_before_and_the_groups() {
         let set = |page: &[u8; PAGE], id, threshold, duration| {
             let numbers = [id, threshold, 0, duration, 0];
-            Case::of(Call { kind: 17, numbers }, page)
+            Case::of(Call { kind: 17, numbers }, page, &EventTable::built_in())
         };
         let none = profiled(0, 0, 0);
         assert_eq!(set(&none, 7, 5, 2), None);

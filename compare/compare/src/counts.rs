@@ -1,6 +1,7 @@
 //! What has been compared, and whether it is enough for a run to pass.
 
 use crate::case::Case;
+use crate::table_case::TableCase;
 use std::collections::BTreeMap;
 
 /// From this many calls on, a run must have met every answer, letter and case.
@@ -15,6 +16,12 @@ const ANSWERS: [u32; 16] = [0, 1, 2, 3, 4, 5, 6, 7, 8, 9, 10, 11, 13, 14, 15, 16
 /// writer refuse, and refused as no list.
 const REPLAY_ANSWERS: [u32; 7] = [0, 1, 5, 8, 100, 101, 102];
 
+/// What tables must have been judged.
+const TABLE_ANSWERS: [u32; 4] = [0, 17, 18, 19];
+
+/// For so many calls one table is judged.
+pub const CALLS_PER_TABLE: u64 = 2;
+
 /// The letters that calls must have answered.
 const LETTERS: [char; 8] = ['a', 'b', 'c', 'd', 'e', 'f', 'g', 'h'];
 
@@ -26,6 +33,7 @@ pub type Letters = BTreeMap<char, u64>;
 
 /// How often each case was met.
 pub type Cases = BTreeMap<Case, u64>;
+pub type TableCases = BTreeMap<TableCase, u64>;
 
 /// What has been compared so far.
 #[derive(Clone, Default)]
@@ -33,13 +41,18 @@ pub struct Counts {
     pub calls: u64,
     pub pages: u64,
     pub lists: u64,
+    /// Tables judged beside the histories.
+    pub tables: u64,
     /// Of calls, fresh and the reader.
     pub answers: Answers,
     pub replay_answers: Answers,
+    pub table_answers: Answers,
     /// Of calls, none left out.
     pub letters: Letters,
     /// Of calls.
     pub cases: Cases,
+    /// Of calls, pages and lists.
+    pub table_cases: TableCases,
 }
 
 impl Counts {
@@ -49,6 +62,14 @@ impl Counts {
 
     pub fn count_replay_answer(&mut self, answer: u32) {
         *self.replay_answers.entry(answer).or_default() += 1;
+    }
+
+    pub fn count_table_answer(&mut self, answer: u32) {
+        *self.table_answers.entry(answer).or_default() += 1;
+    }
+
+    pub fn count_table_case(&mut self, case: TableCase) {
+        *self.table_cases.entry(case).or_default() += 1;
     }
 
     pub fn count_letter(&mut self, letter: char) {
@@ -68,6 +89,10 @@ impl Counts {
                 self.calls
             ));
         }
+        let tables = calls / CALLS_PER_TABLE;
+        if self.tables < tables {
+            lacking.push(format!("{} of {tables} tables were judged", self.tables));
+        }
         if calls < CALLS_FOR_EVERY_ANSWER {
             return lacking;
         }
@@ -79,6 +104,10 @@ impl Counts {
         if !never.is_empty() {
             lacking.push(format!("no replay answered {never}"));
         }
+        let never = missing(&self.table_answers, &TABLE_ANSWERS);
+        if !never.is_empty() {
+            lacking.push(format!("no table was answered {never}"));
+        }
         let never = missing(&self.letters, &LETTERS);
         if !never.is_empty() {
             lacking.push(format!("no call answered the letter {never}"));
@@ -86,6 +115,10 @@ impl Counts {
         let never = Case::ALL
             .iter()
             .filter(|case| !self.cases.contains_key(case));
+        lacking.extend(never.map(|case| format!("never met: {}", case.name())));
+        let never = TableCase::ALL
+            .iter()
+            .filter(|case| !self.table_cases.contains_key(case));
         lacking.extend(never.map(|case| format!("never met: {}", case.name())));
         lacking
     }
@@ -105,6 +138,7 @@ mod tests {
     fn enough() -> Counts {
         let mut counts = Counts {
             calls: CALLS_FOR_EVERY_ANSWER,
+            tables: CALLS_FOR_EVERY_ANSWER / CALLS_PER_TABLE + 1,
             ..Counts::default()
         };
         (0..=11).for_each(|answer| counts.count_answer(answer));
@@ -113,7 +147,12 @@ mod tests {
             counts.count_replay_answer(answer);
         }
         ('a'..='h').for_each(|letter| counts.count_letter(letter));
+        for answer in [0, 17, 18, 19] {
+            counts.count_table_answer(answer);
+        }
         Case::ALL.iter().for_each(|&case| counts.count_case(case));
+        let cases = TableCase::ALL.iter();
+        cases.for_each(|&case| counts.count_table_case(case));
         counts
     }
 
@@ -138,6 +177,12 @@ mod tests {
             let mut counts = enough();
             counts.answers.remove(&answer);
             let told = format!("no call, fresh or reader answered {answer}");
+            assert_eq!(counts.lacking(CALLS_FOR_EVERY_ANSWER), [told]);
+        }
+        for answer in TABLE_ANSWERS {
+            let mut counts = enough();
+            counts.table_answers.remove(&answer);
+            let told = format!("no table was answered {answer}");
             assert_eq!(counts.lacking(CALLS_FOR_EVERY_ANSWER), [told]);
         }
         for answer in REPLAY_ANSWERS {
@@ -166,6 +211,20 @@ mod tests {
             let told = format!("never met: {}", case.name());
             assert_eq!(counts.lacking(CALLS_FOR_EVERY_ANSWER), [told]);
         }
+        for case in TableCase::ALL {
+            let mut counts = enough();
+            counts.table_cases.remove(&case);
+            let told = format!("never met: {}", case.name());
+            assert_eq!(counts.lacking(CALLS_FOR_EVERY_ANSWER), [told]);
+        }
+    }
+
+    #[test]
+    fn too_few_tables_fail() {
+        let mut counts = enough();
+        counts.tables = CALLS_FOR_EVERY_ANSWER / CALLS_PER_TABLE - 1;
+        let lacking = counts.lacking(CALLS_FOR_EVERY_ANSWER);
+        assert_eq!(lacking, ["49999 of 50000 tables were judged"]);
     }
 
     /// Replay refuses with fresh's numbers too; they don't stand for fresh's.
@@ -181,9 +240,11 @@ mod tests {
     fn short_runs_need_no_answers() {
         let counts = Counts {
             calls: 308,
+            tables: 154,
             ..Counts::default()
         };
         assert!(counts.lacking(308).is_empty());
-        assert!(!counts.lacking(309).is_empty());
+        assert_eq!(counts.lacking(309).len(), 1);
+        assert_eq!(counts.lacking(310).len(), 2);
     }
 }

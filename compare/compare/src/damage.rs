@@ -5,15 +5,16 @@ use crate::field::{
     LINES, LOGS, MODE, OVER, PROFILE_ID, PROFILE_THRESHOLD, RUN, STATE, SWITCH, THRESHOLD, UNDER,
 };
 use crate::random::Random;
+use crate::table::EventTable;
 use pillar::PAGE;
 
 /// The page with one piece of damage, or with two, so that the order of the
 /// refusals shows.
-pub fn damaged(random: &mut Random, page: &[u8; PAGE]) -> Vec<u8> {
+pub fn damaged(random: &mut Random, page: &[u8; PAGE], table: &EventTable) -> Vec<u8> {
     let mut bytes = page.to_vec();
-    damage(random, &mut bytes);
+    damage(random, &mut bytes, table);
     if random.one_in(4) {
-        damage(random, &mut bytes);
+        damage(random, &mut bytes, table);
     }
     if random.one_in(16) {
         resize(random, &mut bytes);
@@ -22,7 +23,7 @@ pub fn damaged(random: &mut Random, page: &[u8; PAGE]) -> Vec<u8> {
 }
 
 /// Changes bytes of a whole page.
-fn damage(random: &mut Random, page: &mut [u8]) {
+fn damage(random: &mut Random, page: &mut [u8], table: &EventTable) {
     match random.below(15) {
         0 => page[random.below(PAGE)] = random.byte(),
         1 => page[random.below(PAGE)] ^= 1 << random.below(8),
@@ -30,7 +31,7 @@ fn damage(random: &mut Random, page: &mut [u8]) {
         3 => swap_pairs(random, page),
         4 => page[EXCEEDED] = random.pick(&[0, 1, 2, 3, 128, 255]),
         5 => damage_count(random, page),
-        6 => damage_code(random, page),
+        6 => damage_code(random, page, table),
         7 => damage_past_count(random, page),
         8 => page[MODE] = random.pick(&[0, 1, 6, 7, 128, 255]),
         9 => page[SWITCH] = random.pick(&[0, 1, 2, 3, 255]),
@@ -61,13 +62,15 @@ fn damage_count(random: &mut Random, page: &mut [u8]) {
     *count = random.pick(&[near[0], near[1], 0, 32, 33, 128, 255]);
 }
 
-/// A code at the edge of some log's own codes, in any line.
-fn damage_code(random: &mut Random, page: &mut [u8]) {
+/// A code of the table, or one at the edge of some log's own codes, in any line.
+fn damage_code(random: &mut Random, page: &mut [u8], table: &EventTable) {
     const CODES: [u8; 22] = [
         0, 1, 3, 4, 9, 10, 16, 17, 39, 40, 46, 47, 58, 59, 67, 68, 69, 70, 127, 128, 254, 255,
     ];
     let line = field::line(random.below(3), random.below(LINES));
-    page[line + 4] = random.pick(&CODES);
+    let [listed, ..] = random.pick(table.lines());
+    let edge = random.pick(&CODES);
+    page[line + 4] = random.pick(&[listed, edge]);
 }
 
 fn damage_past_count(random: &mut Random, page: &mut [u8]) {

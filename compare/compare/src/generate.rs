@@ -4,6 +4,7 @@ use crate::call::Call;
 use crate::case::Case;
 use crate::field;
 use crate::random::Random;
+use crate::table::{EventTable, Serving};
 use pillar::{PAGE, Settings};
 
 /// What a history aims at.
@@ -160,13 +161,13 @@ impl Generator {
         }
     }
 
-    /// The next call for the meter of this page.
-    pub fn call(&mut self, random: &mut Random, page: &[u8; PAGE]) -> Call {
+    /// The next call for the meter of this page under this table.
+    pub fn call(&mut self, random: &mut Random, page: &[u8; PAGE], table: &EventTable) -> Call {
         if self.profile == Profile::UnknownKinds && random.one_in(2) {
             return unknown_kind(random);
         }
         if random.one_in(4)
-            && let Some(call) = aimed(random, page)
+            && let Some(call) = aimed(random, page, table)
         {
             return call;
         }
@@ -188,8 +189,8 @@ impl Generator {
                 numbers[2] = duration(random, reach);
             }
             8 => numbers[0] = clock(random, reach),
-            9 => numbers[0] = draw(random, reach, &CODES, &CODES_AT_EDGE),
-            10..=13 => numbers[0] = mask(random, reach),
+            9 => numbers[0] = code(random, reach, table),
+            10..=13 => numbers[0] = mask(random, reach, table),
             14 => numbers[0] = draw(random, reach, &[1, 2, 3], &LOGS_AT_EDGE),
             15 => numbers[0] = draw(random, reach, &[1, 2], &SCRIPTS_AT_EDGE),
             16 => numbers = groups(random, reach),
@@ -218,7 +219,7 @@ impl Generator {
     }
 
     /// A meter that calls alone would reach late or never; some are unsound.
-    pub fn patch(&self, random: &mut Random, page: &[u8; PAGE]) -> [u8; PAGE] {
+    pub fn patch(&self, random: &mut Random, page: &[u8; PAGE], table: &EventTable) -> [u8; PAGE] {
         let mut page = *page;
         match self.profile {
             Profile::Runs => patch_run(random, &mut page),
@@ -236,8 +237,8 @@ impl Generator {
                 let left = random.below(3) as u32;
                 field::put(&mut page, field::OPENINGS, LAST - left);
             }
-            Profile::FullLogs => patch_lines(random, &mut page),
-            _ => patch_registers(random, &mut page),
+            Profile::FullLogs => patch_lines(random, &mut page, table),
+            _ => patch_registers(random, &mut page, table),
         }
         page
     }
@@ -275,7 +276,7 @@ fn unknown_kind(random: &mut Random) -> Call {
 }
 
 /// A call that may be a [`Case`], if it is one on the meter of this page.
-fn aimed(random: &mut Random, page: &[u8; PAGE]) -> Option<Call> {
+fn aimed(random: &mut Random, page: &[u8; PAGE], table: &EventTable) -> Option<Call> {
     let kind = random.pick(&[1, 3, 5, 7, 8, 9, 10, 12, 15, 16, 17]);
     let mut numbers = [0; 5].map(|_| random.number());
     match kind {
@@ -285,15 +286,15 @@ fn aimed(random: &mut Random, page: &[u8; PAGE]) -> Option<Call> {
         }
         7 => numbers[..3].copy_from_slice(&[random.pick(&thresholds(page)), 2, 2]),
         8 => numbers[0] = activation(random, page),
-        9 => numbers[0] = random.pick(&CODES),
-        10 | 12 => numbers[0] = mask(random, Reach::Usual),
+        9 => numbers[0] = random.pick(table.lines())[0].into(),
+        10 | 12 => numbers[0] = mask(random, Reach::Usual, table),
         15 => numbers[0] = 2,
         16 => numbers = groups(random, Reach::Usual),
         17 => numbers = emergency(random, Reach::Usual, page),
         _ => {}
     }
     let call = Call { kind, numbers };
-    Case::of(call, page).map(|_| call)
+    Case::of(call, page, table).map(|_| call)
 }
 
 /// The normal threshold and the profile's, which may be in force.
@@ -393,14 +394,14 @@ fn patch_profile(random: &mut Random, page: &mut [u8; PAGE]) {
 
 /// Registers that events alone would not leave, up to every bit; the count of
 /// alarms is mostly theirs.
-fn patch_registers(random: &mut Random, page: &mut [u8; PAGE]) {
+fn patch_registers(random: &mut Random, page: &mut [u8; PAGE], table: &EventTable) {
     let (any, more) = (random.number(), random.number());
-    let alarms = random.pick(&[any, any & EVENT_BITS, any | more, 0, LAST]);
+    let alarms = random.pick(&[any, any & table.bits(), any | more, 0, LAST]);
     field::put_alarms(page, alarms);
     if random.one_in(8) {
         page[field::ALARM_COUNT] = random.below(34) as u8;
     }
-    let filter = mask(random, Reach::Usual);
+    let filter = mask(random, Reach::Usual, table);
     field::put(page, field::ALARM_FILTER, filter);
     field::put(page, field::ERRORS, random.number());
 }
@@ -411,10 +412,12 @@ fn patch_switch(random: &mut Random, page: &mut [u8; PAGE]) {
 }
 
 /// A log filled to its last line but one, its last or whole.
-fn patch_lines(random: &mut Random, page: &mut [u8; PAGE]) {
+fn patch_lines(random: &mut Random, page: &mut [u8; PAGE], table: &EventTable) {
     let log = random.below(3);
     let count = 30 + random.below(3);
-    let code = [1, 40, 59][log];
+    let mut listed = table.lines().iter();
+    let listed = listed.find(|line| usize::from(line[1]) == log + 1);
+    let code = listed.map_or([4, 255, 59][log], |line| line[0]);
     page[field::LOGS[log]] = count as u8;
     for place in 0..field::LINES {
         let line = field::line(log, place);
@@ -442,8 +445,18 @@ fn clock(random: &mut Random, reach: Reach) -> u32 {
     draw(random, reach, &[usual], &CLOCKS_AT_EDGE)
 }
 
-fn mask(random: &mut Random, reach: Reach) -> u32 {
-    let usual = random.number() & EVENT_BITS;
+/// Mostly a code that the table lists; under an own one also a built-in code.
+fn code(random: &mut Random, reach: Reach, table: &EventTable) -> u32 {
+    let [listed, ..] = random.pick(table.lines());
+    let other = match table.serving {
+        Serving::Own if random.one_in(6) => random.pick(&CODES),
+        _ => listed.into(),
+    };
+    draw(random, reach, &[other], &CODES_AT_EDGE)
+}
+
+fn mask(random: &mut Random, reach: Reach, table: &EventTable) -> u32 {
+    let usual = random.number() & table.bits();
     let wide = random.number();
     draw(random, reach, &[usual, wide], &MASKS_AT_EDGE)
 }
@@ -466,6 +479,7 @@ mod tests {
     #[test]
     fn aimed_calls_meet_every_case() {
         let mut random = Random::new(1);
+        let table = EventTable::built_in();
         let mut page = [0; PAGE];
         field::put(&mut page, field::CLOCK, 1000);
         page[field::LOGS[2]] = 2;
@@ -476,9 +490,9 @@ mod tests {
             patch_switch(&mut random, &mut page);
             patch_profile(&mut random, &mut page);
             patch_run(&mut random, &mut page);
-            patch_registers(&mut random, &mut page);
-            if let Some(call) = aimed(&mut random, &page) {
-                met.extend(Case::of(call, &page));
+            patch_registers(&mut random, &mut page, &table);
+            if let Some(call) = aimed(&mut random, &page, &table) {
+                met.extend(Case::of(call, &page, &table));
             }
         }
         assert_eq!(met, BTreeSet::from(Case::ALL));

@@ -5,6 +5,7 @@ mod case;
 mod counts;
 mod damage;
 mod difference;
+mod draw_table;
 mod field;
 mod generate;
 mod options;
@@ -12,6 +13,9 @@ mod planted;
 mod random;
 mod run;
 mod sides;
+mod sweep_table;
+mod table;
+mod table_case;
 
 use counts::Counts;
 use options::{Options, USAGE};
@@ -96,12 +100,20 @@ fn report(counts: &Counts, options: &Options) -> ExitCode {
         counts.lists,
         listed(&counts.replay_answers)
     );
+    println!(
+        "tables judged: {}, answers {}",
+        counts.tables,
+        listed(&counts.table_answers)
+    );
     for (case, times) in &counts.cases {
         println!("{}: {times}", case.name());
     }
+    for (case, times) in &counts.table_cases {
+        println!("{}: {times}", case.name());
+    }
     let compared = format!(
-        "compared {} calls, {} damaged pages, seed {}",
-        counts.calls, counts.pages, options.seed
+        "compared {} calls, {} damaged pages, {} tables, seed {}",
+        counts.calls, counts.pages, counts.tables, options.seed
     );
     let lacking = counts.lacking(options.calls);
     if lacking.is_empty() {

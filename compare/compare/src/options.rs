@@ -8,13 +8,14 @@ pub const USAGE: &str = "\
 usage: compare [--calls N] [--seed S] [--seconds T] [--planted]
   --calls N    calls to compare, 2000000 if not given; from 100000 on the run
                fails unless every answer occurred (0 to 11 and 13 to 16 from
-               calls, fresh and reader, 0, 1, 5, 8 and 100 to 102 from replay),
-               every letter a to h from calls, and every case that document
-               02's requests are about; below, that demand is left out
+               calls, fresh and reader, 0, 1, 5, 8 and 100 to 102 from replay,
+               0 and 17 to 19 from tables), every letter a to h from calls,
+               and every case that document 02's requests are about; below,
+               that demand is left out. For two calls one table is judged
   --seed S     a number, or `random`; else COMPARE_SEED; else 1
   --seconds T  stops after T seconds, 60 if not given; the run fails if fewer
                than N calls were compared by then; the fixed sweeps at its
-               start don't count (0.4 seconds, 6 in a debug build)
+               start don't count (0.5 seconds, 7 in a debug build)
   --planted    runs against plain with blunders; each must be found within N
                calls and T seconds, 5 at most";
 

@@ -6,7 +6,7 @@ use plain::fault;
 
 type Run = fn(&Plan) -> Result<Counts, Box<Found>>;
 
-pub const PLANTED: [(&str, Run); 68] = [
+pub const PLANTED: [(&str, Run); 98] = [
     (
         "trips at power equal to threshold",
         run::<{ fault::TRIPS_AT_THRESHOLD }>,
@@ -272,5 +272,98 @@ pub const PLANTED: [(&str, Run); 68] = [
     (
         "reads any count of alarms from 0 to 32",
         run::<{ fault::READS_ANY_ALARM_COUNT_TO_32 }>,
+    ),
+    (
+        "judges the lines of a table before its length",
+        run::<{ fault::JUDGES_LENGTH_LAST }>,
+    ),
+    (
+        "takes a table of 65 lines",
+        run::<{ fault::TAKES_65_LINES }>,
+    ),
+    (
+        "takes a table without a line",
+        run::<{ fault::TAKES_EMPTY_TABLE }>,
+    ),
+    (
+        "takes a table whose last line is cut",
+        run::<{ fault::TAKES_CUT_LINE }>,
+    ),
+    (
+        "answers 19 before 18 within a line of a table",
+        run::<{ fault::EXCHANGES_18_AND_19 }>,
+    ),
+    (
+        "lets the last faulty line of a table decide",
+        run::<{ fault::LAST_LINE_DECIDES }>,
+    ),
+    (
+        "lets the lowest number of a table's faults decide",
+        run::<{ fault::LOWEST_NUMBER_DECIDES }>,
+    ),
+    ("takes code 4 in a table", run::<{ fault::TAKES_CODE_4 }>),
+    ("takes code 69 in a table", run::<{ fault::TAKES_CODE_69 }>),
+    (
+        "takes code 255 in a table",
+        run::<{ fault::TAKES_CODE_255 }>,
+    ),
+    ("refuses code 68 in a table", run::<{ fault::BARS_CODE_68 }>),
+    ("refuses code 0 in a table", run::<{ fault::BARS_CODE_0 }>),
+    (
+        "takes an equal code in a table as rising",
+        run::<{ fault::TAKES_EQUAL_CODE }>,
+    ),
+    ("takes log 0 in a table", run::<{ fault::TAKES_LOG_0 }>),
+    ("takes log 4 in a table", run::<{ fault::TAKES_LOG_4 }>),
+    ("takes bit 32 in a table", run::<{ fault::TAKES_BIT_32 }>),
+    ("takes bit 254 in a table", run::<{ fault::TAKES_BIT_254 }>),
+    ("refuses bit 31 in a table", run::<{ fault::BARS_BIT_31 }>),
+    (
+        "takes any error bit in a table",
+        run::<{ fault::TAKES_ANY_ERROR_BIT }>,
+    ),
+    (
+        "raises bit 31 where a table names none",
+        run::<{ fault::RAISES_BIT_31_FOR_NONE }>,
+    ),
+    (
+        "exchanges the alarm and the error bit of a table",
+        run::<{ fault::EXCHANGES_BITS }>,
+    ),
+    (
+        "cuts a code to its low byte before an own table is asked",
+        run::<{ fault::CUTS_OWN_CODE }>,
+    ),
+    (
+        "takes built-in events beside those of an own table",
+        run::<{ fault::ADDS_TO_BUILT_IN }>,
+    ),
+    (
+        "refuses what comes with a table that is not good",
+        run::<{ fault::REFUSES_BAD_TABLE }>,
+    ),
+    (
+        "has no events where a table is not good",
+        run::<{ fault::BAD_TABLE_IS_EMPTY }>,
+    ),
+    (
+        "judges log codes by the built-in table",
+        run::<{ fault::JUDGES_LOGS_BY_BUILT_IN }>,
+    ),
+    (
+        "lets log 3 hold 68 under every table",
+        run::<{ fault::HOLDS_68_ALWAYS }>,
+    ),
+    (
+        "lets a log hold the codes of the others",
+        run::<{ fault::HOLDS_CODES_OF_OTHER_LOGS }>,
+    ),
+    (
+        "refuses the logs' own codes under an own table",
+        run::<{ fault::OWN_TABLE_BARS_LOGS_CODES }>,
+    ),
+    (
+        "clears event 6's error bit by setting the clock",
+        run::<{ fault::CLOCK_CLEARS_EVENT_BIT }>,
     ),
 ];

@@ -1,15 +1,18 @@
 //! The differential test: fixed sweeps first, then histories until the calls
 //! or the time are used up. The sweeps are always run whole, and the time counts
-//! from their end: they take 0.4 seconds, 6 in a debug build.
+//! from their end: they take 0.5 seconds, 7 in a debug build.
 
 use crate::call::{Call, fresh_record};
-use crate::counts::Counts;
+use crate::counts::{CALLS_PER_TABLE, Counts};
 use crate::damage::damaged;
 use crate::difference::Difference;
+use crate::draw_table;
 use crate::field;
 use crate::generate::{Generator, Profile};
 use crate::random::Random;
 use crate::sides::{Compared, Sides};
+use crate::sweep_table::sweep_tables;
+use crate::table::EventTable;
 use pillar::{PAGE, Settings};
 use std::time::{Duration, Instant};
 
@@ -36,6 +39,8 @@ pub fn run<const FAULT: u8>(plan: &Plan) -> Result<Counts, Box<Found>> {
     if let Err(difference) = sweep(&mut sides, &mut random) {
         return Err(found(difference, sides.counts, "the sweep"));
     }
+    // Its tables don't stand for those that are drawn.
+    sides.counts.tables = 0;
     let begin = Instant::now();
     let mut histories = 0_u64;
     while sides.counts.calls < plan.calls && begin.elapsed() < plan.time {
@@ -45,8 +50,20 @@ pub fn run<const FAULT: u8>(plan: &Plan) -> Result<Counts, Box<Found>> {
             let place = format!("history {histories} ({profile:?})");
             return Err(found(difference, sides.counts, &place));
         }
+        if let Err(difference) = tables(&mut sides, &mut random) {
+            return Err(found(difference, sides.counts, "the tables"));
+        }
     }
     Ok(sides.counts)
+}
+
+/// Tables that may be good or not, one for so many calls.
+fn tables<const FAULT: u8>(sides: &mut Sides<FAULT>, random: &mut Random) -> Compared<()> {
+    while sides.counts.tables < sides.counts.calls / CALLS_PER_TABLE {
+        let table = draw_table::to_judge(random);
+        sides.judge_table(&table)?;
+    }
+    Ok(())
 }
 
 fn found(difference: Box<Difference>, counts: Counts, place: &str) -> Box<Found> {
@@ -57,8 +74,8 @@ fn found(difference: Box<Difference>, counts: Counts, place: &str) -> Box<Found>
     })
 }
 
-/// One list of calls from a fresh meter: call by call, with damaged pages
-/// beside them, and then as a whole.
+/// One list of calls from a fresh meter and a table: call by call, with damaged
+/// pages and other tables beside them, and then as a whole.
 fn history<const FAULT: u8>(
     sides: &mut Sides<FAULT>,
     random: &mut Random,
@@ -66,11 +83,13 @@ fn history<const FAULT: u8>(
     calls: u64,
 ) -> Compared<()> {
     let mut generator = Generator::new(profile);
+    sides.take_table(draw_table::of_history(random), call(1, 0))?;
     let settings = generator.settings(random);
     let mut list = Vec::new();
     fresh_record(settings).append_to(&mut list);
     if !sides.fresh(settings, buffer_length(random))? {
-        generator.call(random, &sides.page).append_to(&mut list);
+        let call = generator.call(random, &sides.page, &sides.table);
+        call.append_to(&mut list);
         return sides.replay(&list, buffer_length(random), None);
     }
     let mut patched = false;
@@ -79,17 +98,23 @@ fn history<const FAULT: u8>(
             break;
         }
         if random.one_in(generator.patches()) {
-            let page = generator.patch(random, &sides.page);
-            let call = generator.call(random, &sides.page);
+            let page = generator.patch(random, &sides.page, &sides.table);
+            let call = generator.call(random, &sides.page, &sides.table);
             patched |= sides.adopt(page, call)?;
         }
-        let call = generator.call(random, &sides.page);
+        let call = generator.call(random, &sides.page, &sides.table);
         sides.call(call)?;
         call.append_to(&mut list);
         if random.one_in(4) {
-            let page = damaged(random, &sides.page);
-            let call = generator.call(random, &sides.page);
+            let page = damaged(random, &sides.page, &sides.table);
+            let call = generator.call(random, &sides.page, &sides.table);
             sides.inspect(&page, call)?;
+        }
+        if random.one_in(8) {
+            let table = draw_table::near(random, &sides.table);
+            let page = sides.page;
+            let call = generator.call(random, &page, &table);
+            sides.inspect_under(&table, &page, call)?;
         }
     }
     let page = sides.page;
@@ -125,10 +150,19 @@ fn spoil(random: &mut Random, list: &mut Vec<u8>) {
     }
 }
 
-/// Every value at every byte of three pages, every length, counts of alarms, and
-/// the longest durations run to their end.
+/// Tables first; then every value at every byte of four pages, one of them under an
+/// own table, every length, counts of alarms, and the longest durations run to their
+/// end.
 fn sweep<const FAULT: u8>(sides: &mut Sides<FAULT>, random: &mut Random) -> Compared<()> {
-    for (rounds, activation) in [(0, None), (4, Some(u32::MAX)), (40, Some(0))] {
+    sweep_tables(sides, random)?;
+    let own = HARBOUR.as_flattened();
+    for (table, rounds, activation) in [
+        (own, 4, None),
+        (&[], 0, None),
+        (&[], 4, Some(u32::MAX)),
+        (&[], 40, Some(0)),
+    ] {
+        sides.take_table(EventTable::of(table.to_vec()), call(1, 0))?;
         busy_meter(sides, rounds, activation)?;
         sweep_bytes(sides)?;
         sweep_lengths(sides, random)?;
@@ -153,7 +187,7 @@ fn busy_meter<const FAULT: u8>(
         clock: 1000,
     };
     sides.fresh(settings, PAGE)?;
-    let calls = [(9, 6), (9, 40), (2, 0), (15, 2), (5, 0), (10, 2)];
+    let calls = [(9, 6), (9, 40), (9, 70), (2, 0), (15, 2), (5, 0), (10, 2)];
     // The reconnect arms the limiter, so both samples of Over come behind it.
     let calls = [&calls[..], &[(1, 3001), (1, 3001)]].concat();
     for (kind, number) in calls.repeat(rounds) {
@@ -166,6 +200,15 @@ fn busy_meter<const FAULT: u8>(
     sides.call(profile(activation, 300))?;
     sides.call(call(1, 0))
 }
+
+/// An own table that has two built-in codes with other bits.
+const HARBOUR: [[u8; 4]; 5] = [
+    [0, 2, 31, 255],
+    [6, 1, 5, 7],
+    [40, 2, 255, 0],
+    [70, 3, 0, 31],
+    [254, 1, 13, 13],
+];
 
 /// Three ids.
 const GROUPS: Call = Call {

@@ -1,6 +1,7 @@
 //! The emergency profile and the group ids that it may name (02, A3).
 
 use crate::meter::{Answer, DISCONNECT, Machine};
+use crate::table::Table;
 use crate::{fault, refusal};
 
 /// "up to eight group ids (16 bits)" (02, A3)
@@ -98,8 +99,13 @@ impl Groups {
 impl<const FAULT: u8, const VECTORS: bool> Machine<FAULT, VECTORS> {
     /// Kind 16.
     #[inline]
-    pub fn set_emergency_groups(&mut self, count: u32, pairs: [u32; GROUPS / 2]) -> Answer {
-        self.demand_sound()?;
+    pub fn set_emergency_groups(
+        &mut self,
+        table: &Table,
+        count: u32,
+        pairs: [u32; GROUPS / 2],
+    ) -> Answer {
+        self.demand_sound(table)?;
         self.set_emergency_groups_sound(count, pairs)
     }
 
@@ -107,12 +113,13 @@ impl<const FAULT: u8, const VECTORS: bool> Machine<FAULT, VECTORS> {
     #[inline]
     pub fn set_emergency_profile(
         &mut self,
+        table: &Table,
         id: u32,
         threshold: i32,
         activation: u32,
         duration: u32,
     ) -> Answer {
-        self.demand_sound()?;
+        self.demand_sound(table)?;
         self.set_emergency_profile_sound(id, threshold, activation, duration)
     }
 

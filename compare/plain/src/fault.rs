@@ -141,3 +141,63 @@ pub const COUNTS_CLEARED_MASK: u8 = 66;
 pub const READS_ANY_ALARM_COUNT: u8 = 67;
 /// The reader takes any count of alarms from 0 to 32.
 pub const READS_ANY_ALARM_COUNT_TO_32: u8 = 68;
+/// The lines of a table are judged before its length.
+pub const JUDGES_LENGTH_LAST: u8 = 69;
+/// A table of 65 lines is taken.
+pub const TAKES_65_LINES: u8 = 70;
+/// A table without a line is taken.
+pub const TAKES_EMPTY_TABLE: u8 = 71;
+/// A table is taken without the bytes past its last whole line.
+pub const TAKES_CUT_LINE: u8 = 72;
+/// Within a line of a table 19 comes before 18.
+pub const EXCHANGES_18_AND_19: u8 = 73;
+/// The last faulty line of a table decides.
+pub const LAST_LINE_DECIDES: u8 = 74;
+/// The lowest number among the faults of a table decides, whichever line has it.
+pub const LOWEST_NUMBER_DECIDES: u8 = 75;
+/// A table may list code 4, which call 8 logs.
+pub const TAKES_CODE_4: u8 = 76;
+/// A table may list code 69, which a local reconnect logs.
+pub const TAKES_CODE_69: u8 = 77;
+/// A table may list code 255, which call 14 logs.
+pub const TAKES_CODE_255: u8 = 78;
+/// A table may not list code 68.
+pub const BARS_CODE_68: u8 = 79;
+/// A table may not list code 0.
+pub const BARS_CODE_0: u8 = 80;
+/// A code of a table may be that of the line before.
+pub const TAKES_EQUAL_CODE: u8 = 81;
+/// A table may name log 0.
+pub const TAKES_LOG_0: u8 = 82;
+/// A table may name log 4.
+pub const TAKES_LOG_4: u8 = 83;
+/// A table may name bit 32.
+pub const TAKES_BIT_32: u8 = 84;
+/// A table may name bit 254.
+pub const TAKES_BIT_254: u8 = 85;
+/// A table may not name bit 31.
+pub const BARS_BIT_31: u8 = 86;
+/// Of the two bits of a table's line the alarm bit alone is judged.
+pub const TAKES_ANY_ERROR_BIT: u8 = 87;
+/// 255 in a table names bit 31, as a shift by 255 places would.
+pub const RAISES_BIT_31_FOR_NONE: u8 = 88;
+/// The alarm bit of a table's line is raised as its error bit, and the other way round.
+pub const EXCHANGES_BITS: u8 = 89;
+/// A code is cut to its low byte before it is looked up in an own table.
+pub const CUTS_OWN_CODE: u8 = 90;
+/// Call 9 takes the built-in codes beside those of an own table.
+pub const ADDS_TO_BUILT_IN: u8 = 91;
+/// A table that is not good is refused, and the built-in one does not serve.
+pub const REFUSES_BAD_TABLE: u8 = 92;
+/// A table that is not good serves as one without a line.
+pub const BAD_TABLE_IS_EMPTY: u8 = 93;
+/// The codes in the logs are judged by the built-in table under an own one.
+pub const JUDGES_LOGS_BY_BUILT_IN: u8 = 94;
+/// Log 3 may hold 68 under an own table that does not list it.
+pub const HOLDS_68_ALWAYS: u8 = 95;
+/// A log may hold the codes of another log of an own table.
+pub const HOLDS_CODES_OF_OTHER_LOGS: u8 = 96;
+/// Under an own table the codes that the logs hold besides are not good.
+pub const OWN_TABLE_BARS_LOGS_CODES: u8 = 97;
+/// Call 8 clears the error bit that the table gives event 6, not error bit 0.
+pub const CLOCK_CLEARS_EVENT_BIT: u8 = 98;

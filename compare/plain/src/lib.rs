@@ -1,13 +1,14 @@
 //! The switching core of the pillar meter, written from document 01 and requests
-//! A1, A2, A3, A5 and A6 of document 02, but for one thing: they give the faults
-//! of a list no numbers, so those of [`Machine::replay`], 100 to 102, and the
+//! A1, A2, A3, A5, A6 and A8 of document 02, but for one thing: they give the
+//! faults of a list no numbers, so those of [`Machine::replay`], 100 to 102, and the
 //! order of its refusals are the C interface's (`pillar.h`).
 //!
 //! [`Meter`] is the record with its seventeen calls. Every call works in place
 //! and answers the [`Letter`] of the move that it made, or none, or the number
-//! of its refusal; a refused call leaves the record as it was. [`Vectorised`] is
-//! the same with a test of the logs that is tuned for speed. The quotations in
-//! the comments are document 01's, but for those marked (02, A1) to (02, A6).
+//! of its refusal; a refused call leaves the record as it was. Whatever tests the
+//! record is lent its [`Table`] of events. [`Vectorised`] is the same with a test
+//! of the logs that is tuned for speed. The quotations in the comments are
+//! document 01's, but for those marked (02, A1) to (02, A8).
 
 mod emergency;
 mod events;
@@ -21,6 +22,7 @@ mod log;
 mod meter;
 mod page;
 pub mod refusal;
+mod table;
 
 pub use emergency::{
     ACTIVE, EmergencyProfile, GROUPS, Groups, LONGEST_EMERGENCY, NO_PROFILE, WAITING,
@@ -33,3 +35,4 @@ pub use meter::{
     STANDARD, Vectorised,
 };
 pub use page::{PAGE, PAIRS};
+pub use table::{NO_BIT, OwnTable, TABLE_LINE, TABLE_LINES, Table};

@@ -4,19 +4,21 @@
 use crate::meter::Machine;
 use crate::page::PAGE;
 use crate::refusal;
+use crate::table::Table;
 
 /// The length of one record of a list.
 pub const RECORD: usize = 21;
 
 impl<const FAULT: u8, const VECTORS: bool> Machine<FAULT, VECTORS> {
     /// Runs a list, its fresh record first, and writes the last meter's page.
-    /// Refused calls are passed over, as in the bench program's run.
+    /// Refused calls are passed over, as in the bench program's run. The table is
+    /// "the same for every call of the list and its writer" (02, A8).
     ///
     /// 100 without a byte, 102 with less than a record, 101 if the first is
     /// not fresh, then fresh's refusal, 102 if a later record is cut, and 8 if
     /// the buffer is short; the buffer then stays. 100 to 102 and this order
     /// are the C interface's.
-    pub fn replay(records: &[u8], page: &mut [u8]) -> Result<(), u8> {
+    pub fn replay(records: &[u8], table: &Table, page: &mut [u8]) -> Result<(), u8> {
         if records.is_empty() {
             return Err(refusal::EMPTY_LIST);
         }
@@ -29,35 +31,35 @@ impl<const FAULT: u8, const VECTORS: bool> Machine<FAULT, VECTORS> {
         if page.len() < PAGE {
             return Err(refusal::BUFFER);
         }
-        meter.run_records(calls);
-        meter.write_page(page)
+        meter.run_records(table, calls);
+        meter.write_page(table, page)
     }
 
     /// Runs every whole record of these bytes as a call.
-    pub fn run(&mut self, records: &[u8]) {
+    pub fn run(&mut self, table: &Table, records: &[u8]) {
         let (records, _) = records.as_chunks::<RECORD>();
-        self.run_records(records);
+        self.run_records(table, records);
     }
 
     /// The record is tested once: an unsound one every call refuses, and a sound
     /// one every call keeps sound.
     #[inline]
-    fn run_records(&mut self, records: &[[u8; RECORD]]) {
-        if !self.sound() {
+    fn run_records(&mut self, table: &Table, records: &[[u8; RECORD]]) {
+        if !self.sound(table) {
             return;
         }
         for record in records {
             let (kind, numbers) = decode(record);
-            let _ = self.command_sound(kind, numbers);
+            let _ = self.command_sound(table, kind, numbers);
         }
     }
 
     /// Runs every whole record of these bytes as a call that tests the record.
-    pub fn run_tested(&mut self, records: &[u8]) {
+    pub fn run_tested(&mut self, table: &Table, records: &[u8]) {
         let (records, _) = records.as_chunks::<RECORD>();
         for record in records {
             let (kind, numbers) = decode(record);
-            let _ = self.command(kind, numbers);
+            let _ = self.command(table, kind, numbers);
         }
     }
 

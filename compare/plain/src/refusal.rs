@@ -1,6 +1,6 @@
 //! The refusals by number: 1 to 13 are those of document 01's "Where a call
-//! stops", 14 to 16 those of request A3; 100 to 102 are the C interface's (`pillar.h`), which numbers the
-//! faults of a list.
+//! stops", 14 to 16 those of request A3, 17 to 19 those of request A8; 100 to 102
+//! are the C interface's (`pillar.h`), which numbers the faults of a list.
 
 /// "mode above 6" (fresh, call 6)
 pub const MODE: u8 = 1;
@@ -34,6 +34,12 @@ pub const GROUPS: u8 = 14;
 pub const GROUP_ID: u8 = 15;
 /// "duration outside 1 to 604,800, or threshold negative, after 15" (02, A3)
 pub const PROFILE: u8 = 16;
+/// Table: "length not a multiple of 4, or not 1 to 64 lines" (02, A8)
+pub const TABLE_LENGTH: u8 = 17;
+/// Table: "code barred or not above the line before" (02, A8)
+pub const TABLE_CODE: u8 = 18;
+/// Table: "log not 1–3 or a bit of 32 to 254" (02, A8)
+pub const TABLE_LINE: u8 = 19;
 
 /// `PILLAR_REFUSED_LIST_EMPTY`: a list without a byte
 pub const EMPTY_LIST: u8 = 100;

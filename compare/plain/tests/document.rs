@@ -1,9 +1,12 @@
 //! Document 01's worked example and page, and the rules around them.
 
 use plain::{
-    ACTIVE, CONNECTED, DISCONNECT, DISCONNECTED, EmergencyProfile, Groups, LONGEST,
-    LONGEST_EMERGENCY, Letter, Meter, PAGE, READY, STANDARD, Vectorised, WAITING, refusal,
+    ACTIVE, CONNECTED, DISCONNECT, DISCONNECTED, EmergencyProfile, FRAUD, Groups, LONGEST,
+    LONGEST_EMERGENCY, Letter, Meter, PAGE, READY, STANDARD, TABLE_LINES, Table, Vectorised,
+    WAITING, refusal,
 };
+
+const BUILT_IN: &Table = &Table::BuiltIn;
 
 const FRESH: (u32, [u32; 5]) = (0, [5, 3000, 2, 3, 1000]);
 
@@ -52,7 +55,7 @@ fn worked() -> (Meter, String) {
     let mut meter = example();
     let mut listing = String::from("1 0 1 0\n");
     for (place, &(kind, number)) in CALLS.iter().enumerate() {
-        let answer = meter.command(kind, [number, 0, 0, 0, 0]);
+        let answer = meter.command(BUILT_IN, kind, [number, 0, 0, 0, 0]);
         let refusal = answer.err().unwrap_or(0);
         let line = format!(
             "{} {refusal} {} {}\n",
@@ -67,7 +70,7 @@ fn worked() -> (Meter, String) {
 
 fn page_of(meter: &Meter) -> [u8; PAGE] {
     let mut page = [0xaa; PAGE];
-    meter.write_page(&mut page).unwrap();
+    meter.write_page(BUILT_IN, &mut page).unwrap();
     page
 }
 
@@ -105,7 +108,7 @@ fn worked_example_gives_log_3() {
 #[test]
 fn worked_example_gives_the_letters() {
     let mut meter = example();
-    let answers = CALLS.map(|(kind, number)| meter.command(kind, [number, 0, 0, 0, 0]));
+    let answers = CALLS.map(|(kind, number)| meter.command(BUILT_IN, kind, [number, 0, 0, 0, 0]));
     let letters = answers.map(|answer| answer.ok().flatten().map_or('-', Letter::as_char));
     assert_eq!(String::from_iter(letters), "--ge---b--d---");
 }
@@ -113,7 +116,7 @@ fn worked_example_gives_the_letters() {
 #[test]
 fn replay_gives_the_page_of_the_calls() {
     let mut page = [0x55; PAGE + 3];
-    assert_eq!(Meter::replay(&list(), &mut page), Ok(()));
+    assert_eq!(Meter::replay(&list(), BUILT_IN, &mut page), Ok(()));
     assert_eq!(page[..PAGE], page_of(&worked().0));
     assert_eq!(page[PAGE..], [0x55; 3]);
 }
@@ -122,7 +125,7 @@ fn replay_gives_the_page_of_the_calls() {
 fn replay_refuses_in_order() {
     let replay = |records: &[u8], length: usize| {
         let mut page = vec![0x55; length];
-        let answer = Meter::replay(records, &mut page);
+        let answer = Meter::replay(records, BUILT_IN, &mut page);
         assert!(answer.is_ok() || page.iter().all(|&byte| byte == 0x55));
         answer.err().unwrap_or(0)
     };
@@ -192,15 +195,15 @@ fn page_has_the_stated_layout() {
     assert_eq!(page[563..582], profile);
     assert_eq!(page[582..589], [3, 0x81, 0x82, 0x83, 0x84, 0x85, 0x86]);
     assert_eq!(page[589..], [0; 10]);
-    assert_eq!(Meter::read_page(&page), Ok(meter));
+    assert_eq!(Meter::read_page(&page, BUILT_IN), Ok(meter));
 }
 
 #[test]
 fn the_logs_stand_in_order_on_the_page() {
     let mut meter = example();
-    meter.event(6).unwrap();
-    meter.event(46).unwrap();
-    meter.event(68).unwrap();
+    meter.event(BUILT_IN, 6).unwrap();
+    meter.event(BUILT_IN, 46).unwrap();
+    meter.event(BUILT_IN, 68).unwrap();
     let page = page_of(&meter);
     assert_eq!(page[80..86], [1, 0, 0, 3, 232, 6]);
     assert_eq!(page[241..247], [1, 0, 0, 3, 232, 46]);
@@ -215,10 +218,10 @@ fn the_logs_stand_in_order_on_the_page() {
 fn the_writer_leaves_bytes_past_the_page() {
     let meter = example();
     let mut long = [0x55; PAGE + 10];
-    assert_eq!(meter.write_page(&mut long), Ok(()));
+    assert_eq!(meter.write_page(BUILT_IN, &mut long), Ok(()));
     assert_eq!(long[PAGE..], [0x55; 10]);
     let mut short = [0x55; PAGE - 1];
-    assert_eq!(meter.write_page(&mut short), Err(refusal::BUFFER));
+    assert_eq!(meter.write_page(BUILT_IN, &mut short), Err(refusal::BUFFER));
     assert_eq!(short, [0x55; PAGE - 1]);
 }
 
@@ -228,8 +231,8 @@ fn the_reader_refuses_in_order() {
     let read = |change: &dyn Fn(&mut [u8; PAGE])| {
         let mut page = good;
         change(&mut page);
-        let answer = Meter::read_page(&page).err();
-        assert_eq!(Vectorised::read_page(&page).err(), answer);
+        let answer = Meter::read_page(&page, BUILT_IN).err();
+        assert_eq!(Vectorised::read_page(&page, BUILT_IN).err(), answer);
         answer.unwrap_or(0)
     };
     assert_eq!(read(&|_| ()), 0);
@@ -257,9 +260,15 @@ fn the_reader_refuses_in_order() {
     assert_eq!(read(&|page| (page[80], page[85]) = (1, 255)), 0);
     assert_eq!(read(&|page| (page[80], page[85]) = (1, 40)), 11);
     assert_eq!(read(&|page| page[562] = 255), 11);
-    assert_eq!(Meter::read_page(&good[..598]), Err(refusal::LENGTH));
-    assert_eq!(Meter::read_page(&good[..558]), Err(refusal::LENGTH));
-    assert_eq!(Meter::read_page(&[0; 600]), Err(refusal::LENGTH));
+    assert_eq!(
+        Meter::read_page(&good[..598], BUILT_IN),
+        Err(refusal::LENGTH)
+    );
+    assert_eq!(
+        Meter::read_page(&good[..558], BUILT_IN),
+        Err(refusal::LENGTH)
+    );
+    assert_eq!(Meter::read_page(&[0; 600], BUILT_IN), Err(refusal::LENGTH));
 }
 
 /// Wherever the byte stands, and with either test of the logs.
@@ -272,8 +281,16 @@ fn the_reader_refuses_any_byte_past_the_lines() {
         let mut page = good;
         page[place] = 64;
         let refused = Some(refusal::UNSOUND_PAGE);
-        assert_eq!(Meter::read_page(&page).err(), refused, "byte {place}");
-        assert_eq!(Vectorised::read_page(&page).err(), refused, "byte {place}");
+        assert_eq!(
+            Meter::read_page(&page, BUILT_IN).err(),
+            refused,
+            "byte {place}"
+        );
+        assert_eq!(
+            Vectorised::read_page(&page, BUILT_IN).err(),
+            refused,
+            "byte {place}"
+        );
     }
 }
 
@@ -298,7 +315,7 @@ fn fresh_refuses_in_order() {
 fn numbers_are_judged_at_their_full_width() {
     let mut meter = example();
     let before = meter;
-    let mut answer = |kind, number| meter.command(kind, [number, 1, 1, 0, 0]);
+    let mut answer = |kind, number| meter.command(BUILT_IN, kind, [number, 1, 1, 0, 0]);
     assert_eq!(answer(6, 256), Err(1));
     assert_eq!(answer(15, 257), Err(3));
     assert_eq!(answer(9, 262), Err(6));
@@ -317,14 +334,14 @@ fn an_unsound_record_is_refused_by_every_call_and_the_writer() {
     meter.run = 2;
     let before = meter;
     for kind in 1..=17 {
-        let answer = meter.command(kind, [9, 0, 0, 0, 0]);
+        let answer = meter.command(BUILT_IN, kind, [9, 0, 0, 0, 0]);
         assert_eq!(answer, Err(refusal::UNSOUND), "call {kind}");
     }
-    assert_eq!(meter.command(18, [0; 5]), Err(refusal::KIND));
-    assert_eq!(meter.write_page(&mut []), Err(refusal::UNSOUND));
+    assert_eq!(meter.command(BUILT_IN, 18, [0; 5]), Err(refusal::KIND));
+    assert_eq!(meter.write_page(BUILT_IN, &mut []), Err(refusal::UNSOUND));
     // A list tests it once, and its calls no more.
-    meter.run(&list());
-    meter.run_tested(&list());
+    meter.run(BUILT_IN, &list());
+    meter.run_tested(BUILT_IN, &list());
     assert_eq!(meter, before);
 }
 
@@ -332,8 +349,8 @@ fn an_unsound_record_is_refused_by_every_call_and_the_writer() {
 #[test]
 fn a_list_runs_as_its_calls_do() {
     let (mut once, mut each) = (example(), example());
-    once.run(&list());
-    each.run_tested(&list());
+    once.run(BUILT_IN, &list());
+    each.run_tested(BUILT_IN, &list());
     assert_eq!(once, each);
     assert_ne!(once, example());
 }
@@ -355,7 +372,7 @@ fn a_call_on_a_page_judges_the_kind_first() {
     for (page, expected) in pages {
         let call = |kind| {
             let mut after = page.to_vec();
-            let answer = Meter::call_on_page(&mut after, kind, [0; 5]);
+            let answer = Meter::call_on_page(&mut after, BUILT_IN, kind, [0; 5]);
             assert!(answer.is_ok() || after == page);
             answer.err().unwrap_or(0)
         };
@@ -368,7 +385,8 @@ fn a_call_on_a_page_judges_the_kind_first() {
 #[test]
 fn a_call_on_a_page_hands_on_the_letter() {
     let mut page = page_of(&example());
-    let mut call = |kind, number| Meter::call_on_page(&mut page, kind, [number, 0, 0, 0, 0]);
+    let mut call =
+        |kind, number| Meter::call_on_page(&mut page, BUILT_IN, kind, [number, 0, 0, 0, 0]);
     assert_eq!(call(15, 1), Ok(Some(Letter::B)));
     assert_eq!(call(2, 0), Ok(None));
     assert_eq!(call(3, 0), Ok(Some(Letter::D)));
@@ -451,7 +469,7 @@ fn mode_0_closes_without_a_letter() {
 fn samples_hand_on_g_and_h() {
     for mode in 0..=6 {
         let mut meter = Meter::fresh(mode, 10, 2, 2, 0).unwrap();
-        let letters = [11, 11, 11, 10, 10, 10].map(|power| meter.sample(power).unwrap());
+        let letters = [11, 11, 11, 10, 10, 10].map(|power| meter.sample(BUILT_IN, power).unwrap());
         let g = (mode != 0).then_some(Letter::G);
         let h = (mode >= 5).then_some(Letter::H);
         assert_eq!(letters, [None, g, None, None, h, None], "mode {mode}");
@@ -466,7 +484,7 @@ fn call(mode: u8, switch: u8, kind: u32, number: u32) -> Outcome {
     let mut meter = example();
     meter.mode = mode;
     meter.switch = switch;
-    let answer = meter.command(kind, [number, 0, 0, 0, 0]);
+    let answer = meter.command(BUILT_IN, kind, [number, 0, 0, 0, 0]);
     let opened = switch == CONNECTED && meter.switch != CONNECTED;
     assert_eq!(meter.openings, opened.into());
     let line = meter.logs[DISCONNECT].lines().last().map(|line| line.1);
@@ -478,18 +496,18 @@ fn call(mode: u8, switch: u8, kind: u32, number: u32) -> Outcome {
 fn the_ends_hold() {
     let mut meter = Meter::fresh(1, 0, 2, 2, u32::MAX - 1).unwrap();
     meter.openings = u32::MAX;
-    meter.sample(i32::MIN).unwrap();
-    meter.sample(i32::MIN).unwrap();
+    meter.sample(BUILT_IN, i32::MIN).unwrap();
+    meter.sample(BUILT_IN, i32::MIN).unwrap();
     assert_eq!((meter.clock, meter.run), (u32::MAX, 0));
-    meter.remote_disconnect().unwrap();
+    meter.remote_disconnect(BUILT_IN).unwrap();
     assert_eq!((meter.switch, meter.openings), (DISCONNECTED, u32::MAX));
 }
 
 #[test]
 fn setting_the_clock_writes_both_clocks() {
     let mut meter = example();
-    meter.event(6).unwrap();
-    meter.set_clock(7).unwrap();
+    meter.event(BUILT_IN, 6).unwrap();
+    meter.set_clock(BUILT_IN, 7).unwrap();
     let lines: Vec<_> = meter.logs[STANDARD].lines().collect();
     assert_eq!(lines, [(1000, 6), (1000, 4), (7, 5)]);
     assert_eq!((meter.alarms, meter.errors), (1, 0));
@@ -498,23 +516,23 @@ fn setting_the_clock_writes_both_clocks() {
 #[test]
 fn filters_hide_at_the_event_only() {
     let mut meter = example();
-    meter.set_alarm_filter(1 << 13 | 1).unwrap();
-    meter.event(40).unwrap();
-    meter.event(6).unwrap();
+    meter.set_alarm_filter(BUILT_IN, 1 << 13 | 1).unwrap();
+    meter.event(BUILT_IN, 40).unwrap();
+    meter.event(BUILT_IN, 6).unwrap();
     assert_eq!((meter.alarms, meter.errors), (0, 1));
-    meter.set_alarm_filter(0).unwrap();
-    meter.set_error_filter(u32::MAX).unwrap();
+    meter.set_alarm_filter(BUILT_IN, 0).unwrap();
+    meter.set_error_filter(BUILT_IN, u32::MAX).unwrap();
     assert_eq!((meter.alarms, meter.errors), (0, 1));
 }
 
 #[test]
 fn clears_write_their_lines() {
     let mut meter = example();
-    meter.clear_alarms(0).unwrap();
-    meter.clear_errors(0).unwrap();
+    meter.clear_alarms(BUILT_IN, 0).unwrap();
+    meter.clear_errors(BUILT_IN, 0).unwrap();
     let lines: Vec<_> = meter.logs[STANDARD].lines().collect();
     assert_eq!(lines, [(1000, 11), (1000, 10)]);
-    meter.clear_log(1).unwrap();
+    meter.clear_log(BUILT_IN, 1).unwrap();
     let lines: Vec<_> = meter.logs[STANDARD].lines().collect();
     assert_eq!(lines, [(1000, 255)]);
 }
@@ -523,8 +541,8 @@ fn clears_write_their_lines() {
 fn alarms_after(calls: &[(u32, u32)]) -> (u32, u8) {
     let mut meter = example();
     for &(kind, number) in calls {
-        let _ = meter.command(kind, [number, 0, 0, 0, 0]);
-        assert!(meter.sound());
+        let _ = meter.command(BUILT_IN, kind, [number, 0, 0, 0, 0]);
+        assert!(meter.sound(BUILT_IN));
         assert_eq!(page_of(&meter)[71], meter.alarm_count);
     }
     (meter.alarms, meter.alarm_count)
@@ -576,11 +594,11 @@ fn another_number_of_alarms_is_unsound() {
             meter.alarms = alarms;
             meter.alarm_count = count;
             let sound = u32::from(count) == alarms.count_ones();
-            assert_eq!(meter.sound(), sound, "{count} of {alarms:#x}");
+            assert_eq!(meter.sound(BUILT_IN), sound, "{count} of {alarms:#x}");
             let mut page = [0; PAGE];
             let unsound = (!sound).then_some(refusal::UNSOUND);
-            assert_eq!(meter.write_page(&mut page).err(), unsound);
-            assert_eq!(meter.command(12, [0; 5]).err(), unsound);
+            assert_eq!(meter.write_page(BUILT_IN, &mut page).err(), unsound);
+            assert_eq!(meter.command(BUILT_IN, 12, [0; 5]).err(), unsound);
         }
     }
 }
@@ -590,16 +608,16 @@ fn another_number_of_alarms_is_unsound() {
 fn the_reader_judges_the_alarms_area() {
     let mut meter = example();
     for code in [6, 13, 40] {
-        meter.event(code).unwrap();
+        meter.event(BUILT_IN, code).unwrap();
     }
-    meter.set_alarm_filter(0x1234_5678).unwrap();
+    meter.set_alarm_filter(BUILT_IN, 0x1234_5678).unwrap();
     let good = page_of(&meter);
     assert_eq!(good[63..72], [0, 0, 0x22, 1, 0x12, 0x34, 0x56, 0x78, 3]);
     for (place, value) in (63..72).flat_map(|place| (0..=255).map(move |value| (place, value))) {
         let mut page = good;
         page[place] = value;
-        let read = Meter::read_page(&page);
-        assert_eq!(Vectorised::read_page(&page).err(), read.err());
+        let read = Meter::read_page(&page, BUILT_IN);
+        assert_eq!(Vectorised::read_page(&page, BUILT_IN).err(), read.err());
         let bits: u32 = page[63..67].iter().map(|byte| byte.count_ones()).sum();
         let counted = bits == u32::from(page[71]);
         let refused = (!counted).then_some(refusal::UNSOUND_PAGE);
@@ -613,10 +631,10 @@ fn the_reader_judges_the_alarms_area() {
 #[test]
 fn a_limiter_setting_keeps_exceeded() {
     let mut meter = Meter::fresh(0, 10, 1, 2, 0).unwrap();
-    meter.sample(11).unwrap();
-    meter.sample(0).unwrap();
+    meter.sample(BUILT_IN, 11).unwrap();
+    meter.sample(BUILT_IN, 0).unwrap();
     assert_eq!((meter.exceeded, meter.run, meter.openings), (true, 1, 0));
-    meter.set_limiter(20, 1, 1).unwrap();
+    meter.set_limiter(BUILT_IN, 20, 1, 1).unwrap();
     assert_eq!((meter.exceeded, meter.run), (true, 0));
     let codes: Vec<_> = meter.logs[DISCONNECT].lines().map(|line| line.1).collect();
     assert_eq!(codes, [65, 67]);
@@ -626,7 +644,7 @@ fn a_limiter_setting_keeps_exceeded() {
 fn nearly_under(mode: u32) -> Meter {
     let mut meter = Meter::fresh(mode, 10, 2, 3, 0).unwrap();
     for power in [11, 11, 10, 10] {
-        meter.sample(power).unwrap();
+        meter.sample(BUILT_IN, power).unwrap();
     }
     assert_eq!((meter.exceeded, meter.run), (true, 2));
     meter
@@ -644,7 +662,7 @@ fn the_key_arms_the_limiter() {
     for mode in 1..=6 {
         let mut meter = nearly_under(mode);
         let before = meter;
-        assert_eq!(meter.manual_reconnect(), Ok(Some(Letter::E)));
+        assert_eq!(meter.manual_reconnect(BUILT_IN), Ok(Some(Letter::E)));
         assert_eq!(codes(&meter), [65, 64, 61]);
         let expected = Meter {
             switch: CONNECTED,
@@ -655,8 +673,8 @@ fn the_key_arms_the_limiter() {
         };
         assert_eq!(meter, expected);
         // The kettle is still on: cut again, after Over samples.
-        assert_eq!(meter.sample(11), Ok(None));
-        assert_eq!(meter.sample(11), Ok(Some(Letter::G)));
+        assert_eq!(meter.sample(BUILT_IN, 11), Ok(None));
+        assert_eq!(meter.sample(BUILT_IN, 11), Ok(Some(Letter::G)));
         assert_eq!(codes(&meter), [65, 64, 61, 65, 64]);
         assert_eq!((meter.switch, meter.openings), (READY, 2));
     }
@@ -665,12 +683,12 @@ fn the_key_arms_the_limiter() {
 #[test]
 fn the_key_sets_run_0_where_not_exceeded() {
     let mut meter = Meter::fresh(1, 10, 2, 3, 0).unwrap();
-    meter.sample(11).unwrap();
-    meter.manual_disconnect().unwrap();
+    meter.sample(BUILT_IN, 11).unwrap();
+    meter.manual_disconnect(BUILT_IN).unwrap();
     assert_eq!(meter.run, 1);
-    meter.manual_reconnect().unwrap();
+    meter.manual_reconnect(BUILT_IN).unwrap();
     assert_eq!((meter.exceeded, meter.run), (false, 0));
-    assert_eq!(meter.sample(11), Ok(None));
+    assert_eq!(meter.sample(BUILT_IN, 11), Ok(None));
     assert_eq!(codes(&meter), [60, 61]);
 }
 
@@ -682,7 +700,7 @@ fn nothing_else_arms_the_limiter() {
         let mut meter = nearly_under(mode);
         meter.switch = switch;
         for &(kind, number) in calls {
-            meter.command(kind, [number, 0, 0, 0, 0]).unwrap();
+            meter.command(BUILT_IN, kind, [number, 0, 0, 0, 0]).unwrap();
         }
         (meter.exceeded, meter.run) != (true, 2)
     };
@@ -703,14 +721,16 @@ fn nothing_else_arms_the_limiter() {
 /// A meter with the group 7, threshold 10, Over and Under 2, clock 100.
 fn grouped() -> Meter {
     let mut meter = Meter::fresh(5, 10, 2, 2, 100).unwrap();
-    meter.set_emergency_groups(1, [7 << 16, 0, 0, 0]).unwrap();
+    meter
+        .set_emergency_groups(BUILT_IN, 1, [7 << 16, 0, 0, 0])
+        .unwrap();
     meter
 }
 
 /// The same with a profile of this threshold, activation and duration.
 fn waiting(threshold: i32, activation: u32, duration: u32) -> Meter {
     let mut meter = grouped();
-    let set = meter.set_emergency_profile(7, threshold, activation, duration);
+    let set = meter.set_emergency_profile(BUILT_IN, 7, threshold, activation, duration);
     assert_eq!(set, Ok(None));
     assert_eq!(
         (meter.profile.state, meter.profile.left),
@@ -721,7 +741,7 @@ fn waiting(threshold: i32, activation: u32, duration: u32) -> Meter {
 
 fn run_samples(meter: &mut Meter, powers: &[i32]) {
     for &power in powers {
-        meter.sample(power).unwrap();
+        meter.sample(BUILT_IN, power).unwrap();
     }
 }
 
@@ -732,7 +752,7 @@ fn a_profile_starts_at_activation_and_ends_by_its_samples() {
     let states = |activation, powers: &[i32]| {
         let mut meter = waiting(5, activation, 2);
         let state = |&power: &i32| {
-            meter.sample(power).unwrap();
+            meter.sample(BUILT_IN, power).unwrap();
             (meter.profile.state, meter.profile.left)
         };
         powers.iter().map(state).collect::<Vec<_>>()
@@ -743,7 +763,7 @@ fn a_profile_starts_at_activation_and_ends_by_its_samples() {
     let later = [(WAITING, 2), (ACTIVE, 1), (0, 0)];
     assert_eq!(states(102, &[0, 0, 0]), later);
     let mut meter = waiting(5, 0, 1);
-    meter.sample(0).unwrap();
+    meter.sample(BUILT_IN, 0).unwrap();
     assert_eq!(meter.profile, EmergencyProfile::NONE);
     assert_eq!(codes(&meter), [67, 67]);
 }
@@ -786,17 +806,17 @@ fn a_threshold_change_begins_anew() {
 #[test]
 fn a_profile_in_place_of_another_waits() {
     let mut meter = waiting(5, 0, 9);
-    assert_eq!(meter.set_emergency_profile(7, 4, 0, 9), Ok(None));
+    assert_eq!(meter.set_emergency_profile(BUILT_IN, 7, 4, 0, 9), Ok(None));
     assert_eq!(codes(&meter), []);
     run_samples(&mut meter, &[11]);
-    assert_eq!(meter.set_emergency_profile(7, 3, 0, 8), Ok(None));
+    assert_eq!(meter.set_emergency_profile(BUILT_IN, 7, 3, 0, 8), Ok(None));
     let profile = meter.profile;
     let found = (profile.state, profile.threshold, profile.left, meter.run);
     assert_eq!(found, (WAITING, 3, 8, 0));
     assert_eq!(codes(&meter), [67, 67]);
     let mut meter = waiting(10, 0, 9);
     run_samples(&mut meter, &[11]);
-    assert_eq!(meter.set_emergency_profile(7, 3, 0, 8), Ok(None));
+    assert_eq!(meter.set_emergency_profile(BUILT_IN, 7, 3, 0, 8), Ok(None));
     assert_eq!((codes(&meter), meter.run), (vec![], 1));
 }
 
@@ -807,10 +827,10 @@ fn other_calls_leave_a_profile() {
     let mut meter = waiting(5, 0, 3);
     run_samples(&mut meter, &[6]);
     let profile = meter.profile;
-    meter.set_clock(0).unwrap();
-    meter.set_emergency_groups(0, [0; 4]).unwrap();
+    meter.set_clock(BUILT_IN, 0).unwrap();
+    meter.set_emergency_groups(BUILT_IN, 0, [0; 4]).unwrap();
     assert_eq!((meter.profile, meter.run), (profile, 1));
-    meter.set_limiter(5, 2, 2).unwrap();
+    meter.set_limiter(BUILT_IN, 5, 2, 2).unwrap();
     assert_eq!((meter.profile, meter.run), (profile, 0));
     assert_eq!(codes(&meter), [67, 67]);
     // The end finds the same number, and the row runs on.
@@ -819,9 +839,9 @@ fn other_calls_leave_a_profile() {
     assert_eq!((codes(&meter), meter.run), (vec![67, 67], 1));
     // Call 8 starts nothing, and set back it delays.
     let mut meter = waiting(5, 200, 3);
-    meter.set_clock(300).unwrap();
+    meter.set_clock(BUILT_IN, 300).unwrap();
     assert_eq!(meter.profile.state, WAITING);
-    meter.set_clock(100).unwrap();
+    meter.set_clock(BUILT_IN, 100).unwrap();
     run_samples(&mut meter, &[0]);
     assert_eq!(meter.profile.state, WAITING);
 }
@@ -834,12 +854,12 @@ fn groups_and_profiles_are_refused_in_order() {
     let before = meter;
     let ids = [u32::MAX; 4];
     for count in [9, 256, 264, u32::MAX] {
-        let answer = meter.set_emergency_groups(count, ids);
+        let answer = meter.set_emergency_groups(BUILT_IN, count, ids);
         assert_eq!(answer, Err(refusal::GROUPS), "{count} ids");
     }
     let set = |id, threshold, duration| {
         let mut after = meter;
-        let answer = after.set_emergency_profile(id, threshold, 0, duration);
+        let answer = after.set_emergency_profile(BUILT_IN, id, threshold, 0, duration);
         assert!(answer.is_ok() || after == meter);
         answer.err().unwrap_or(0)
     };
@@ -852,9 +872,9 @@ fn groups_and_profiles_are_refused_in_order() {
     assert_eq!(set(8, -1, 0), 15);
     assert_eq!(set(0, 0, 1), 15);
     assert_eq!(meter, before);
-    meter.set_emergency_groups(8, ids).unwrap();
+    meter.set_emergency_groups(BUILT_IN, 8, ids).unwrap();
     assert_eq!(meter.groups.ids, [0xffff; 8]);
-    meter.set_emergency_groups(3, ids).unwrap();
+    meter.set_emergency_groups(BUILT_IN, 3, ids).unwrap();
     assert_eq!(meter.groups.ids, [0xffff, 0xffff, 0xffff, 0, 0, 0, 0, 0]);
 }
 
@@ -871,8 +891,8 @@ fn the_reader_judges_the_ninth_area() {
         {
             let mut page = good;
             page[place] = value;
-            let read = Meter::read_page(&page);
-            assert_eq!(Vectorised::read_page(&page).err(), read.err());
+            let read = Meter::read_page(&page, BUILT_IN);
+            assert_eq!(Vectorised::read_page(&page, BUILT_IN).err(), read.err());
             let Ok(meter) = read else {
                 assert_eq!(read, Err(refusal::UNSOUND_PAGE));
                 continue;
@@ -880,4 +900,249 @@ fn the_reader_judges_the_ninth_area() {
             assert_eq!(page_of(&meter), page, "byte {place}");
         }
     }
+}
+
+/// Lines of code, log, alarm bit, error bit: the first and the last code that a
+/// table may have, 6 with bits of its own, and standard 40.
+const HARBOUR: [[u8; 4]; 6] = [
+    [0, 2, 31, 255],
+    [6, 1, 5, 7],
+    [40, 1, 255, 0],
+    [70, 3, 0, 31],
+    [200, 2, 255, 255],
+    [254, 3, 13, 13],
+];
+
+fn own(lines: &[[u8; 4]]) -> Table {
+    let table = Table::load(lines.as_flattened()).unwrap();
+    assert!(matches!(table, Table::Own(_)));
+    table
+}
+
+fn table_refusal(lines: &[[u8; 4]]) -> u8 {
+    Table::load(lines.as_flattened()).err().unwrap_or(0)
+}
+
+/// "17, length not a multiple of 4, or not 1 to 64 lines" (02, A8)
+#[test]
+fn a_table_has_1_to_64_whole_lines() {
+    let codes = (0..=255).filter(|code| !matches!(code, 4 | 5 | 10 | 11 | 59..=67 | 69 | 255));
+    let bytes: Vec<u8> = codes.flat_map(|code| [code, 3, 31, 255]).collect();
+    for length in 0..=300 {
+        let good = length % 4 == 0 && (1..=TABLE_LINES).contains(&(length / 4));
+        let refused = (!good).then_some(refusal::TABLE_LENGTH);
+        let loaded = Table::load(&bytes[..length]);
+        assert_eq!(loaded.err(), refused, "{length} bytes");
+        // "On loading 17 comes first".
+        let loaded = Table::load(&vec![4; length]);
+        let refused = refused.unwrap_or(refusal::TABLE_CODE);
+        assert_eq!(loaded.err(), Some(refused), "{length} bytes");
+    }
+}
+
+/// "18, code barred or not above the line before; 19, log not 1–3 or a bit of 32 to
+/// 254"; "then the first faulty line decides, 18 before 19 within it" (02, A8)
+#[test]
+fn the_first_faulty_line_of_a_table_decides() {
+    let good = [7, 1, 255, 255];
+    let barred = [10, 1, 255, 255];
+    let no_log = [9, 4, 255, 255];
+    let no_bit = [9, 1, 255, 32];
+    assert_eq!(table_refusal(&[good]), 0);
+    assert_eq!(table_refusal(&[good, barred]), 18);
+    assert_eq!(table_refusal(&[good, no_log]), 19);
+    assert_eq!(table_refusal(&[good, no_bit]), 19);
+    // Not above the line before.
+    assert_eq!(table_refusal(&[good, good]), 18);
+    assert_eq!(table_refusal(&[good, [6, 1, 255, 255]]), 18);
+    // In one line, and in two.
+    assert_eq!(table_refusal(&[good, [10, 0, 32, 254]]), 18);
+    assert_eq!(table_refusal(&[good, [7, 4, 255, 255]]), 18);
+    assert_eq!(table_refusal(&[no_log, barred]), 19);
+    assert_eq!(table_refusal(&[no_bit, [9, 1, 255, 255]]), 19);
+    assert_eq!(
+        table_refusal(&[[9, 1, 0, 0], [8, 1, 0, 0], [9, 4, 0, 0]]),
+        18
+    );
+    // Two neighbours, and every sort of line.
+    assert_eq!(
+        table_refusal(&[[0, 1, 0, 0], [1, 2, 31, 0], [2, 3, 0, 31]]),
+        0
+    );
+    assert_eq!(table_refusal(&HARBOUR), 0);
+}
+
+/// "a list's account reads call 9 by the table it began with" (02, A8)
+#[test]
+fn events_are_those_of_the_own_table() {
+    let table = own(&HARBOUR);
+    let event = |code: u32| {
+        let mut meter = example();
+        let before = meter;
+        let answer = meter.event(&table, code);
+        if answer.is_err() {
+            assert_eq!((answer, meter), (Err(refusal::CODE), before), "{code}");
+            return None;
+        }
+        assert!(meter.sound(&table));
+        let counts = meter.logs.map(|log| log.count);
+        let log = counts.iter().position(|&count| count == 1).unwrap();
+        assert_eq!(counts.iter().sum::<u8>(), 1);
+        let line = meter.logs[log].lines().next();
+        assert_eq!(line, Some((1000, code as u8)));
+        assert_eq!(u32::from(meter.alarm_count), meter.alarms.count_ones());
+        Some((log, meter.alarms, meter.errors))
+    };
+    assert_eq!(event(0), Some((FRAUD, 1 << 31, 0)));
+    assert_eq!(event(6), Some((STANDARD, 1 << 5, 1 << 7)));
+    assert_eq!(event(40), Some((STANDARD, 0, 1)));
+    assert_eq!(event(70), Some((DISCONNECT, 1, 1 << 31)));
+    assert_eq!(event(200), Some((FRAUD, 0, 0)));
+    assert_eq!(event(254), Some((DISCONNECT, 1 << 13, 1 << 13)));
+    let taken = (0..1024).filter(|&code| event(code).is_some());
+    assert_eq!(taken.collect::<Vec<_>>(), [0, 6, 40, 70, 200, 254]);
+}
+
+/// "soundness of log codes is against that table" (02, A8): each code in each log.
+#[test]
+fn log_codes_are_judged_by_the_table() {
+    let listed = |log: usize, code: u8| {
+        let line = HARBOUR.iter().find(|line| line[0] == code);
+        line.is_some_and(|line| usize::from(line[1]) == log + 1)
+    };
+    let besides = |log, code| match log {
+        STANDARD => matches!(code, 4 | 5 | 10 | 11 | 255),
+        FRAUD => code == 255,
+        _ => matches!(code, 59..=67 | 69 | 255),
+    };
+    let table = own(&HARBOUR);
+    for (log, code) in (0..3).flat_map(|log| (0..=255).map(move |code| (log, code))) {
+        let mut meter = example();
+        meter.clear_log(&table, log as u32 + 1).unwrap();
+        meter.logs[log].codes[0] = code;
+        let sound = listed(log, code) || besides(log, code);
+        assert_eq!(meter.sound(&table), sound, "code {code} in log {log}");
+        let unsound = (!sound).then_some(refusal::UNSOUND);
+        let mut page = [0; PAGE];
+        assert_eq!(meter.write_page(&table, &mut page).err(), unsound);
+        assert_eq!(meter.command(&table, 10, [0; 5]).err(), unsound);
+        // Written by a table that lists every code but the barred ones there.
+        if !sound && !matches!(code, 4 | 5 | 10 | 11 | 59..=67 | 69 | 255) {
+            let other = own(&[[code, log as u8 + 1, 255, 255]]);
+            meter.write_page(&other, &mut page).unwrap();
+            let refused = Some(refusal::UNSOUND_PAGE);
+            assert_eq!(Meter::read_page(&page, &table).err(), refused);
+            assert_eq!(Vectorised::read_page(&page, &table).err(), refused);
+            let answer = Meter::call_on_page(&mut page, &table, 10, [0; 5]);
+            assert_eq!(answer.err(), refused);
+        } else if sound {
+            assert_eq!(Meter::read_page(&page, &table), Ok(meter));
+            assert!(Vectorised::read_page(&page, &table).is_ok());
+        }
+    }
+}
+
+/// "68 only if listed": document 01 has it as an event.
+#[test]
+fn code_68_is_good_where_it_is_listed() {
+    let mut meter = example();
+    meter.event(BUILT_IN, 68).unwrap();
+    let page = page_of(&meter);
+    assert!(Meter::read_page(&page, BUILT_IN).is_ok());
+    assert!(Meter::read_page(&page, &own(&[[68, 3, 0, 0]])).is_ok());
+    let refused = Err(refusal::UNSOUND_PAGE);
+    assert_eq!(Meter::read_page(&page, &own(&[[68, 1, 0, 0]])), refused);
+    assert_eq!(Meter::read_page(&page, &own(&HARBOUR)), refused);
+}
+
+/// What a call writes by itself stays good under any table.
+#[test]
+fn every_call_keeps_its_record_sound_under_an_own_table() {
+    let table = own(&HARBOUR);
+    let mut meter = Meter::fresh(5, 3000, 1, 1, 1000).unwrap();
+    let calls = [
+        (1, 3001),
+        (1, 0),
+        (1, 3001),
+        (5, 0),
+        (4, 0),
+        (2, 0),
+        (3, 0),
+        (15, 1),
+        (15, 2),
+    ];
+    let settings = [
+        (8, 7),
+        (10, 0),
+        (11, 0),
+        (12, 0),
+        (13, 0),
+        (9, 0),
+        (9, 254),
+        (6, 0),
+    ];
+    for (kind, number) in [&calls[..], &settings, &[(14, 1), (14, 2), (14, 3)]].concat() {
+        let answer = meter.command(&table, kind, [number, 0, 0, 0, 0]);
+        assert!(answer.is_ok(), "call {kind}");
+        assert!(meter.sound(&table), "call {kind}");
+        assert!(Meter::read_page(&page_by(&meter, &table), &table) == Ok(meter));
+    }
+    meter.set_limiter(&table, 1, 1, 1).unwrap();
+    assert!(meter.sound(&table));
+}
+
+fn page_by(meter: &Meter, table: &Table) -> [u8; PAGE] {
+    let mut page = [0xaa; PAGE];
+    meter.write_page(table, &mut page).unwrap();
+    page
+}
+
+/// Call 8: "error bit 0 is cleared", by its place, whatever event raises it.
+#[test]
+fn the_clock_clears_error_bit_0_under_any_table() {
+    let table = own(&HARBOUR);
+    let mut meter = example();
+    for code in [6, 40, 70] {
+        meter.event(&table, code).unwrap();
+    }
+    assert_eq!(
+        (meter.alarms, meter.errors),
+        (1 << 5 | 1, 1 << 7 | 1 | 1 << 31)
+    );
+    meter.set_clock(&table, 7).unwrap();
+    assert_eq!((meter.alarms, meter.errors), (1 << 5 | 1, 1 << 7 | 1 << 31));
+}
+
+/// "Without a good table the built-in one serves." (02, A8)
+#[test]
+fn without_a_good_table_the_built_in_one_serves() {
+    for bytes in [&[][..], &[6], &[4, 1, 0, 0], &[6, 4, 0, 0], &[6, 1, 32, 0]] {
+        let table = Table::load(bytes).unwrap_or_default();
+        assert_eq!(table, Table::BuiltIn);
+        let mut meter = example();
+        meter.event(&table, 6).unwrap();
+        assert_eq!((meter.alarms, meter.errors), (1, 1));
+    }
+}
+
+/// "Lists of calls now begin with a fresh meter and a table, the same for every call
+/// of the list and its writer" (02, A8)
+#[test]
+fn a_list_is_replayed_under_its_table() {
+    let table = own(&HARBOUR);
+    let mut list = record(0, [5, 3000, 2, 3, 1000]);
+    let mut meter = example();
+    for code in [0, 6, 1, 254, 68, 40] {
+        list.extend(record(9, [code, 7, 7, 7, 7]));
+        let _ = meter.event(&table, code);
+    }
+    let mut page = [0x55; PAGE];
+    assert_eq!(Meter::replay(&list, &table, &mut page), Ok(()));
+    assert_eq!(page, page_by(&meter, &table));
+    let counts = meter.logs.map(|log| log.count);
+    assert_eq!(counts, [2, 1, 1]);
+    let mut other = [0x55; PAGE];
+    assert_eq!(Meter::replay(&list, BUILT_IN, &mut other), Ok(()));
+    assert_eq!([other[80], other[241], other[402]], [2, 1, 1]);
+    assert_ne!(page, other);
 }

@@ -2,6 +2,7 @@
 //! and prints what each costs, with the ratios: the shortest time of many, or
 //! exact instructions.
 
+mod event_table;
 mod instructions;
 mod item;
 #[cfg(not(feature = "stand-in"))]
@@ -9,6 +10,7 @@ mod measure;
 mod plain_side;
 mod proved_side;
 mod side;
+mod start;
 mod table;
 mod timing;
 

@@ -1,8 +1,9 @@
 //! Plain, the reference implementation, with either test of the logs: the same
 //! loops as the proved core's.
 
+use crate::event_table::EventTable;
 use crate::side::{Call, Calls, Page, Side};
-use plain::Faultless;
+use plain::{Faultless, Table};
 use std::hint::black_box;
 
 /// Where the page has the last byte of the clock.
@@ -15,56 +16,69 @@ impl<const VECTORS: bool> Side for Plain<VECTORS> {
         if VECTORS { "vectorised" } else { "idiomatic" }
     }
 
-    fn calls(&self, page: &mut Page, records: &[u8], rounds: u32, by: Calls) -> u32 {
-        let mut meter = match Faultless::<VECTORS>::read_page(page) {
+    fn calls(
+        &self,
+        page: &mut Page,
+        table: &EventTable,
+        records: &[u8],
+        rounds: u32,
+        by: Calls,
+    ) -> u32 {
+        let table = loaded(table);
+        let mut meter = match Faultless::<VECTORS>::read_page(page, table) {
             Ok(meter) => meter,
             Err(refusal) => return refusal.into(),
         };
         for _ in 0..rounds {
             match by {
-                Calls::OfList => meter.run(black_box(records)),
-                Calls::ByMethod => meter.run_tested(black_box(records)),
+                Calls::OfList => meter.run(table, black_box(records)),
+                Calls::ByMethod => meter.run_tested(table, black_box(records)),
             }
         }
-        number(meter.write_page(page))
+        number(meter.write_page(table, page))
     }
 
-    fn sound(&self, page: &Page, rounds: u32) -> u32 {
-        let mut meter = Faultless::<VECTORS>::read_page(page).unwrap_or_default();
+    fn sound(&self, page: &Page, table: &EventTable, rounds: u32) -> u32 {
+        let table = loaded(table);
+        let mut meter = Faultless::<VECTORS>::read_page(page, table).unwrap_or_default();
         let mut sound = 0;
         for round in 0..rounds {
             meter.clock = round;
-            sound += u32::from(black_box(&meter).sound());
+            sound += u32::from(black_box(&meter).sound(table));
         }
         sound
     }
 
-    fn write(&self, page: &mut Page, rounds: u32) -> u32 {
-        let mut meter = Faultless::<VECTORS>::read_page(page).unwrap_or_default();
+    fn write(&self, page: &mut Page, table: &EventTable, rounds: u32) -> u32 {
+        let table = loaded(table);
+        let mut meter = Faultless::<VECTORS>::read_page(page, table).unwrap_or_default();
         let mut accepted = 0;
         for round in 0..rounds {
             meter.clock = round;
-            let answer = black_box(&meter).write_page(black_box(page));
+            let answer = black_box(&meter).write_page(table, black_box(page));
             accepted += u32::from(answer.is_ok());
         }
         accepted
     }
 
-    fn read(&self, page: &mut Page, rounds: u32) -> u32 {
+    fn read(&self, page: &mut Page, table: &EventTable, rounds: u32) -> u32 {
+        let table = loaded(table);
         let mut accepted = 0;
         for round in 0..rounds {
             page[CLOCK_END] = round as u8;
-            let read = Faultless::<VECTORS>::read_page(black_box(page));
+            let read = Faultless::<VECTORS>::read_page(black_box(page), table);
             accepted += u32::from(black_box(&read).is_ok());
         }
         accepted
     }
 
-    fn call_on_page(&self, page: &mut Page, call: Call, rounds: u32) -> u32 {
+    fn call_on_page(&self, page: &mut Page, table: &EventTable, call: Call, rounds: u32) -> u32 {
         let Call { kind, numbers } = call;
+        let table = loaded(table);
         let answer = |_| {
             number(Faultless::<VECTORS>::call_on_page(
                 black_box(page),
+                table,
                 kind,
                 numbers,
             ))
@@ -72,10 +86,24 @@ impl<const VECTORS: bool> Side for Plain<VECTORS> {
         (0..rounds).map(answer).sum()
     }
 
-    fn replay(&self, list: &[u8], page: &mut Page, rounds: u32) -> u32 {
-        let answer = |_| number(Faultless::<VECTORS>::replay(black_box(list), page));
+    fn replay(&self, list: &[u8], table: &EventTable, page: &mut Page, rounds: u32) -> u32 {
+        let table = loaded(table);
+        let answer = |_| number(Faultless::<VECTORS>::replay(black_box(list), table, page));
         (0..rounds).map(answer).sum()
     }
+
+    fn judge(&self, table: &EventTable, rounds: u32) -> u32 {
+        let accepted = |_| {
+            let loaded = Table::load(black_box(&table.bytes));
+            u32::from(black_box(&loaded).is_ok())
+        };
+        (0..rounds).map(accepted).sum()
+    }
+}
+
+/// The table, as one that a meter learns only when it runs.
+fn loaded(table: &EventTable) -> &Table {
+    black_box(&table.plain)
 }
 
 fn number<T>(answer: Result<T, u8>) -> u32 {

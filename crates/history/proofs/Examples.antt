@@ -57,6 +57,7 @@ histories =
       raised-again = refl;
       cleared-by-clock = refl;
       alarm-counts = refl;
+      own-table = refl;
       lines-standard = refl;
       lines-of-firings = refl;
       lines-of-moves = refl;

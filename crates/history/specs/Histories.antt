@@ -8,7 +8,7 @@ use mathlib.Core.List.{List, [], _∷_, _++_, map}
 use lib.IntN.{pos, negsuc}
 use lib.ListN.{getD, replicate}
 use Rattle.events.specs.Line.{Line, line}
-use Rattle.events.specs.Table.{builtIn}
+use Rattle.events.specs.Table.{EventRow, plain, alarming, both as bothBits, builtIn}
 use Rattle.calls.specs.declared.Letter.{Letter}
 use Rattle.calls.specs.declared.Letter.the-variants.{A, B, C, D, E, F, G, H, None}
 use Rattle.calls.specs.declared.Call.{Call}
@@ -20,7 +20,7 @@ use Rattle.history.specs.Effects.{requested, reading}
 use Rattle.history.specs.Profile.{ProfileState, noProfile, waiting, active}
 use Rattle.history.specs.Switch.{decides}
 use Rattle.history.specs.Account.{AnyAccount, accountOf, anyAccount}
-use Rattle.history.specs.OnePhase.{Fresh, asFresh, asCall, profileWith, letter}
+use Rattle.history.specs.OnePhase.{Fresh, asFresh, asCall, profileWith, account, letter}
 use Rattle.history.specs.Examples.{fresh, builtInAccount, refusal, answer, codes}
 
 -- what a call is answered in modes 0 to 6
@@ -94,6 +94,14 @@ both p q = sample (pos p ∷ pos q ∷ [])
 -- Exceeded and Run of each, and the disconnect log (log 3: lists are counted from 0)
 abbrev pub limiterShows : AnyAccount → List (Bool × ℕ) × List Line
 limiterShows a = (map (λ m. (m .exceeded, m .run)) (a .monitored), getD (a .logs) 2 [])
+
+-- document 02, A8: an event table of three lines, in which 6 is an event of the fraud log without a bit, and 20 and 68 have bits of their own
+abbrev pub ownRows : List EventRow
+ownRows = plain 2 6 ∷ alarming 1 20 5 ∷ bothBits 2 68 0 ∷ []
+
+-- alarms, errors, and the codes of the logs, by that table
+abbrev pub byOwnTable : List Call → ℕ × ℕ × List (List ℕ)
+byOwnTable calls = let a = account ownRows (fresh 1 3 1 1 1000) calls in (a .alarms, a .errors, map codes (a .logs))
 
 -- the histories, by the sentence that each shows
 pub record Histories : Type 0 where
@@ -254,6 +262,11 @@ pub record Histories : Type 0 where
       map (λ calls. builtInAccount (fresh 1 3 1 1 1000) (Event 6 ∷ Event 16 ∷ Event 40 ∷ Event 6 ∷ calls) .alarmCount)
       ([] ∷ (SetAlarmFilter 2 ∷ Event 7 ∷ []) ∷ (SetAlarmFilter 1 ∷ []) ∷ (ClearAlarms 3 ∷ []) ∷ (ClearAlarms 4294967295 ∷ []) ∷ [])
       ≡ 3 ∷ 3 ∷ 3 ∷ 2 ∷ 0 ∷ []
+  -- document 02, A8: 'a list's account reads call 9 by the table it began with'; 7 it does not list, and error bit 0 goes with the clock set,
+  -- whichever event raised it
+  pub own-table :
+      map byOwnTable ((Event 6 ∷ Event 7 ∷ Event 20 ∷ []) ∷ (Event 68 ∷ []) ∷ (Event 68 ∷ SetClock 5 ∷ []) ∷ [])
+      ≡ (32, 0, (20 ∷ []) ∷ (6 ∷ []) ∷ [] ∷ []) ∷ (1, 1, [] ∷ (68 ∷ []) ∷ [] ∷ []) ∷ (1, 0, (4 ∷ 5 ∷ []) ∷ (68 ∷ []) ∷ [] ∷ []) ∷ []
   -- call 8: 'standard line 4 with the old clock, line 5 with the new'; calls 12, 13: 'standard line 11 or 10, mask 0 included';
   -- call 9: 'one line in its log'
   pub lines-standard :

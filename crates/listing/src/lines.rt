@@ -71,19 +71,21 @@ fn put_cut(text: &mut [u8], len: usize, count: usize) -> usize
     put_bytes(text, len, b"short\n")
 }
 
-// Puts the lines of a block's whole records at the start of a text, the first with this position.
+// Puts the lines of a block's whole records at the start of a text, the first with this position. The
+// bench keeps the built-in event table.
 fn put_lines(text: &mut [u8], block: &[u8], position: u64, before: Meter) -> PutLines
     requires { ⌜ (7800 ≤ length (now text)) × (length (now block) ≤ 4095) × (position + 195 ≤ 18446744073709551615) ⌝ }
     ensures { λ r. ⌜ r .meter ≡ meterAfter builtIn before (recordsFrom 0 (now (block .entry))) ⌝ }
     ensures { λ r. ⌜ PutAtStart (now (text .entry)) (linesIn position before (now (block .entry))) (r .len) (now (text .exit)) ⌝ }
     ensures { λ r. ⌜ r .len ≤ 7800 ⌝ }
 {
+    let table = tables::built_in();
     let mut meter = before;
     let mut len = 0;
     let mut i = 0;
     while i < block.len() / RECORD_LEN {
         let record = replay::record_at(block, i * RECORD_LEN);
-        let outcome = replay::next(meter, record);
+        let outcome = replay::next(&table, meter, record);
         len = put_line(text, len, replay::line_of(position + i as u64, outcome));
         meter = outcome.meter;
         i += 1;

@@ -8,7 +8,7 @@ use native.Mathlib.Omega.{arith}
 use lib.Dec.{ltb}
 use lib.ListN.{length, length-set}
 use lib.Seq.{set-set}
-use Rattle.events.specs.Table.{builtIn}
+use Rattle.events.specs.Table.{EventRow}
 use Rattle.calls.specs.declared.Answer.{Answer}
 use Rattle.calls.specs.declared.Answer.the-variants.{Accepted, Refused}
 use Rattle.calls.specs.declared.Command.{Command}
@@ -19,34 +19,34 @@ use Rattle.page.specs.Layout.{writeAnswer, written, readOf}
 use Rattle.replay.specs.Replay.{recordsFrom, meterAfter}
 use Rattle.measure.specs.Rounds.{roundsFrom, callsAnswer, callsPage, passing, inRound, writtenRounds, pageInRound, pageAfterRounds}
 
-pub next-round : (n : ℕ) (m : Meter) (rs : List Command) → 0 < n → roundsFrom (n - 1) (meterAfter builtIn m rs) rs ≡ roundsFrom n m rs
+pub next-round : (rows : List EventRow) (n : ℕ) (m : Meter) (rs : List Command) → 0 < n → roundsFrom rows (n - 1) (meterAfter rows m rs) rs ≡ roundsFrom rows n m rs
 unfolding roundsFrom
-next-round n m rs h =
+next-round rows n m rs h =
     let one : n ≡ suc (n - 1) = omega arith in
-    sym (ap (λ (k : ℕ). roundsFrom k m rs) one)
+    sym (ap (λ (k : ℕ). roundsFrom rows k m rs) one)
 
-pub no-round : (n : ℕ) (m : Meter) (rs : List Command) → n ≡ 0 → roundsFrom n m rs ≡ m
+pub no-round : (rows : List EventRow) (n : ℕ) (m : Meter) (rs : List Command) → n ≡ 0 → roundsFrom rows n m rs ≡ m
 unfolding roundsFrom
-no-round n m rs e = rw e
+no-round rows n m rs e = rw e
 
-module _ (page s : List ℕ) (n : ℕ) (read : Outcome) (reads : read ≡ readOf builtIn page) where
-  pub rounds-refused : (r : ℕ) → read .answer ≡ Refused r → (r ≡ callsAnswer page s n) × (page ≡ callsPage page s n)
+module _ (rows : List EventRow) (page s : List ℕ) (n : ℕ) (read : Outcome) (reads : read ≡ readOf rows page) where
+  pub rounds-refused : (r : ℕ) → read .answer ≡ Refused r → (r ≡ callsAnswer rows page s n) × (page ≡ callsPage rows page s n)
   unfolding callsAnswer callsPage
   rounds-refused r e =
-      let refused : readOf builtIn page .answer ≡ Refused r = ap (λ (o : Outcome). o .answer) (sym reads) ∙ e in
+      let refused : readOf rows page .answer ≡ Refused r = ap (λ (o : Outcome). o .answer) (sym reads) ∙ e in
       (rw refused, rw refused)
 
   pub rounds-written : (r : ℕ) (m : Meter) (a : Answer) (after : List ℕ) → read .answer ≡ Accepted
-      → m ≡ roundsFrom n (read .meter) (recordsFrom 0 s)
-      → (a ≡ writeAnswer builtIn m page) × (after ≡ written builtIn m page) → r ≡ answerNumber a
-      → (r ≡ callsAnswer page s n) × (after ≡ callsPage page s n)
+      → m ≡ roundsFrom rows n (read .meter) (recordsFrom 0 s)
+      → (a ≡ writeAnswer rows m page) × (after ≡ written rows m page) → r ≡ answerNumber a
+      → (r ≡ callsAnswer rows page s n) × (after ≡ callsPage rows page s n)
   unfolding callsAnswer callsPage
   rounds-written r m a after e runs wrote number =
-      let accepted : readOf builtIn page .answer ≡ Accepted = ap (λ (o : Outcome). o .answer) (sym reads) ∙ e in
-      let last : m ≡ roundsFrom n (readOf builtIn page .meter) (recordsFrom 0 s) =
-      runs ∙ ap (λ (o : Outcome). roundsFrom n (o .meter) (recordsFrom 0 s)) reads in (
-        rw accepted (number ∙ ap answerNumber (wrote .0) ∙ ap (λ (m : Meter). answerNumber (writeAnswer builtIn m page)) last),
-        rw accepted (wrote .1 ∙ ap (λ (m : Meter). written builtIn m page) last),
+      let accepted : readOf rows page .answer ≡ Accepted = ap (λ (o : Outcome). o .answer) (sym reads) ∙ e in
+      let last : m ≡ roundsFrom rows n (readOf rows page .meter) (recordsFrom 0 s) =
+      runs ∙ ap (λ (o : Outcome). roundsFrom rows n (o .meter) (recordsFrom 0 s)) reads in (
+        rw accepted (number ∙ ap answerNumber (wrote .0) ∙ ap (λ (m : Meter). answerNumber (writeAnswer rows m page)) last),
+        rw accepted (wrote .1 ∙ ap (λ (m : Meter). written rows m page) last),
       )
 
 -- ---- rounds of one function: one more, and no more than there are
@@ -73,14 +73,14 @@ next-passing n k r test b so-far adds passes = rw (so-far, adds, passes, add-one
 pub same-round : (m n : Meter) (i : ℕ) → inRound m 0 ≡ inRound n 0 → inRound m i ≡ inRound n i
 same-round m n i e = ap (λ (x : Meter). inRound x i) e
 
-pub next-written : (m : Meter) (page : List ℕ) (n : ℕ) → written builtIn (inRound m n) (writtenRounds m page n) ≡ writtenRounds m page (n + 1)
+pub next-written : (rows : List EventRow) (m : Meter) (page : List ℕ) (n : ℕ) → written rows (inRound m n) (writtenRounds rows m page n) ≡ writtenRounds rows m page (n + 1)
 unfolding writtenRounds
-next-written m page n = rw (add-one n)
+next-written rows m page n = rw (add-one n)
 
 -- the writer asks for the buffer's length alone
-pub answer-by-length : (m : Meter) (s t : List ℕ) → length s ≡ length t → writeAnswer builtIn m s ≡ writeAnswer builtIn m t
+pub answer-by-length : (rows : List EventRow) (m : Meter) (s t : List ℕ) → length s ≡ length t → writeAnswer rows m s ≡ writeAnswer rows m t
 unfolding writeAnswer
-answer-by-length m s t e = rw e
+answer-by-length rows m s t e = rw e
 
 -- the round before has changed that byte alone
 pub next-page : (page : List ℕ) (n : ℕ) → pageInRound (pageAfterRounds page n) n ≡ pageInRound page n

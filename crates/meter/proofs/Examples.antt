@@ -30,7 +30,7 @@ examples = record { lines = refl; log = refl; power = refl; taken = refl; refuse
 
 pub near-misses : NearMisses
 unfolding applied soundMeter soundScalars soundControl soundLimiter soundAlarms bit howMany soundEmergency soundLogs soundArrays soundLog ownCodes zeroPast
-    among below builtIn lookup besides mayHold
+    among any below builtIn lookup besides mayHold
 near-misses =
     record {
       modes = refl;

@@ -11,7 +11,7 @@ use Rattle.meter.proofs.Tail.{sound-in-parts, command-in-parts}
 use Rattle.meter.proofs.Preserved.{applied-answer, refused-same, refused-letter, commanded-same, applied-sound}
 use Rattle.meter.proofs.Simulates.{simulates, letters, reached-sound}
 
-laws-of : (rows : List EventRow) → every lawful rows ≡ true → LawsOf rows
+pub laws-of : (rows : List EventRow) → every lawful rows ≡ true → LawsOf rows
 laws-of rows table =
     record {
       record-of-state = record-of-state rows;
@@ -27,10 +27,6 @@ laws-of rows table =
       simulates = λ f calls t i. simulates rows table f t calls i;
       letters = λ f calls c t i. letters rows table f t calls c i;
     }
-
--- of the meter with the table of document 01
-pub built-in : LawsOf builtIn
-built-in = laws-of builtIn built-in-lawful
 
 pub laws : Laws
 laws = (built-in-lawful, laws-of)

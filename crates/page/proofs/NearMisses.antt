@@ -2,6 +2,7 @@
 use Rattle.page.proofs.Common.{refl, flatMap, be, among, below, numAt, builtIn, lookup, soundLimiter, ownCodes, zeroPast, soundLog, soundArrays, padded}
 use Rattle.page.proofs.Common.{flat, laid, soundLogs, soundMeter, soundScalars}
 use Rattle.base.specs.Bits.{bit, howMany}
+use Rattle.base.specs.Tests.{any}
 use Rattle.registers.specs.Alarms.{soundAlarms}
 use Rattle.emergency.specs.Emergency.{soundEmergency}
 use Rattle.events.specs.Codes.{besides, mayHold}
@@ -11,10 +12,11 @@ use Rattle.page.specs.NearMisses.{NearMisses}
 
 pub near-misses : NearMisses
 unfolding readOf hasPairs holdsSound layout ofAreas writeAnswer numAt flatMap soundMeter soundScalars soundControl soundLimiter soundLogs soundArrays
-    soundAlarms bit howMany soundEmergency be soundLog ownCodes zeroPast padded flat laid among below builtIn lookup besides mayHold
+    soundAlarms bit howMany soundEmergency be soundLog ownCodes zeroPast padded flat laid among any below builtIn lookup besides mayHold
 near-misses =
     record {
       unchanged = refl;
+      by-table = refl;
       lengths = refl;
       pairs-bytes = refl;
       modes = refl;

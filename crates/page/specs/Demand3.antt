@@ -19,8 +19,9 @@ use Rattle.meter.specs.Fresh.{freshOf}
 use Rattle.page.specs.Layout.{writeAnswer, written}
 use Rattle.page.specs.AccountPage.{pageLength, accountPage}
 
--- 'any two fresh meters, each with its own accepted settings', and a list of calls from each: the numbers are values of their types. The event
--- table is document 01's, `builtIn`, or any other of lawful rows.
+-- 'any two fresh meters, each with its own accepted settings', and a list of calls from each: the numbers are values of their types. Document 02, A8:
+-- 'Lists of calls now begin with a fresh meter and a table, the same for every call of the list and its writer': its rows, which are lawful in every
+-- table (`any-bytes` and `any-array` of tables)
 pub record Trace : Type 0 where
   pub rows : List EventRow
   pub settings : Fresh

@@ -8,8 +8,9 @@ use lib.IntN.{pos}
 use lib.ListN.{replicate}
 use Rattle.base.specs.Tests.{every}
 use Rattle.events.specs.Line.{line}
-use Rattle.events.specs.Table.{builtIn, lawful}
+use Rattle.events.specs.Table.{EventRow, both, builtIn, lawful}
 use Rattle.calls.specs.declared.Answer.the-variants.{Accepted}
+use Rattle.calls.specs.declared.Call.the-variants.{Event, ClearLog}
 use Rattle.history.specs.Effects.{Profile}
 use Rattle.history.specs.Profile.{waiting, active}
 use Rattle.history.specs.OnePhase.{Account}
@@ -18,7 +19,7 @@ use Rattle.meter.specs.Settings.{freshAnswer, SettingsInRange}
 use Rattle.meter.specs.Fresh.{freshOf}
 use Rattle.page.specs.Layout.{size}
 use Rattle.page.specs.AccountPage.{emergencyBytes, accountPage}
-use Rattle.page.specs.Demand3.{Trace, traceAccount, Compared}
+use Rattle.page.specs.Demand3.{Trace, pageAfter, traceAccount, Compared}
 
 -- fresh accepts (5, 3000, 2, 3, 1000)
 pub bench-accepted : freshOf exampleSettings .answer ≡ Accepted
@@ -85,6 +86,39 @@ unused =
       accepted = bench-accepted;
       settings-in-range = bench-in-range;
       calls-in-range = tt;
+    }
+
+-- document 02, A8: an event table of one line, in which 20 is what 6 is in the built-in one
+abbrev pub ownRows : List EventRow
+ownRows = both 1 20 0 ∷ []
+
+pub own-lawful : every lawful ownRows ≡ true
+unfolding every lawful
+own-lawful = refl
+
+-- the event by the one table and by the other; its line goes with the log
+abbrev pub byBuiltIn : Trace
+byBuiltIn =
+    record {
+      rows = builtIn;
+      settings = exampleSettings;
+      calls = Event 6 ∷ ClearLog 1 ∷ [];
+      lawful-rows = built-in-lawful;
+      accepted = bench-accepted;
+      settings-in-range = bench-in-range;
+      calls-in-range = (omega arith, (omega arith, tt));
+    }
+
+abbrev pub byOwnTable : Trace
+byOwnTable =
+    record {
+      rows = ownRows;
+      settings = exampleSettings;
+      calls = Event 20 ∷ ClearLog 1 ∷ [];
+      lawful-rows = own-lawful;
+      accepted = bench-accepted;
+      settings-in-range = bench-in-range;
+      calls-in-range = (omega arith, (omega arith, tt));
     }
 
 -- a log without lines: its count, and the zeros of 32 lines
@@ -184,3 +218,6 @@ pub record Examples : Type 0 where
   pub waiting-area : emergencyBytes (7 ∷ []) (waiting someProfile) ≡ waitingBytes
   -- two traces, each with a buffer that is long enough: what demand 3 speaks of is there
   pub compared : Compared worked unused (replicate size 255) (replicate 600 0)
+  -- document 02, A8: two lists with two tables whose accounts are equal, and so their pages
+  pub two-accounts : traceAccount byBuiltIn ≡ traceAccount byOwnTable
+  pub two-tables : pageAfter byBuiltIn (replicate size 0) ≡ pageAfter byOwnTable (replicate size 0)

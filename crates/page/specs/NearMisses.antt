@@ -7,7 +7,7 @@ use lib.Dec.{eqb}
 use lib.ListN.{getD, length, set, take, drop, replicate}
 use Rattle.base.specs.Tests.{below}
 use Rattle.codec.specs.BigEndian.{be}
-use Rattle.events.specs.Table.{builtIn}
+use Rattle.events.specs.Table.{EventRow, plain, builtIn}
 use Rattle.calls.specs.Calls.{answerNumber}
 use Rattle.meter.specs.declared.Meter.{Meter}
 use Rattle.meter.specs.Examples.{exampleMeter}
@@ -46,8 +46,19 @@ abbrev pub writeNumber : Meter → ℕ → ℕ
 writeNumber m n = answerNumber (writeAnswer builtIn m (replicate n 0))
 
 -- the worked example has mode 0, switch 1, Over 2, not Exceeded, six lines in log 3, and neither a profile nor groups
+-- document 02, A8: an event table in which 20 is an event of the fraud log, and nothing else is one
+abbrev pub twentyInFraud : List EventRow
+twentyInFraud = plain 2 20 ∷ []
+
+-- by that table and by the built-in one: the reader's number for these bytes
+abbrev pub readByBoth : List ℕ → List ℕ
+readByBoth s = map (λ rows. answerNumber (readOf rows s .answer)) (twentyInFraud ∷ builtIn ∷ [])
+
 pub record NearMisses : Type 0 where
   pub unchanged : readNumber workedBytes ≡ 0
+  -- document 02, A8: 'soundness of log codes is against that table .., the reader too': the page with the line of an event 20 in the fraud log, and with one
+  -- of 68 in the disconnect log
+  pub by-table : map readByBoth (workedBytes ∷ set (set workedBytes 241 1) 246 20 ∷ set workedBytes 407 68 ∷ []) ≡ (0 ∷ 0 ∷ []) ∷ (0 ∷ 11 ∷ []) ∷ (11 ∷ 0 ∷ []) ∷ []
   -- 'reader | 9 | length not 558'; document 02, A3: '8 and 9 go by the page's present length'
   pub lengths : map readNumber (take 598 workedBytes ∷ (workedBytes ++ (0 ∷ [])) ∷ []) ≡ 9 ∷ 9 ∷ []
   -- 'reader | 10 | a pair differs': any of their bytes one more

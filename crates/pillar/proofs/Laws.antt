@@ -6,11 +6,14 @@ use mathlib.Core.List.{List, [], _∷_, _++_, append-nil}
 use Prim.Native.Nat.{ℕ}
 use native.Mathlib.Omega.{arith}
 use lib.Dec.{eqb, leb}
-use lib.ListN.{length, drop-of-length-le}
+use lib.ListN.{length, drop, drop-of-length-le}
 use borrow.Author.Tests.{le-leb}
 use Rattle.base.specs.Tests.{every, within}
 use Rattle.codec.specs.Lawful.{Bytes}
-use Rattle.events.specs.Table.{EventRow, lawful}
+use Rattle.events.specs.Table.{EventRow, builtIn, lawful}
+use Rattle.events.proofs.Rule.{built-in-lawful}
+use Rattle.tables.specs.Bytes.{tableOf}
+use Rattle.tables.proofs.Loads.{bytes-lawful}
 use Rattle.logs.specs.Layout.{Sized}
 use Rattle.calls.specs.declared.Call.{Call}
 use Rattle.calls.specs.declared.Answer.{Answer}
@@ -38,10 +41,10 @@ use Rattle.page.proofs.RoundTrip as roundtrip
 use Rattle.page.proofs.Ranges.{account-typed}
 use Rattle.page.proofs.Printed.{list-written}
 use Rattle.replay.specs.Replay.{withCall, callsIn, nextOf, meterAfter}
-use Rattle.pillar.specs.Interface.{numberOr, bytesOr, keptNumber, keptPage, outcomeOn, performedNumber, performedPage, freshPage, callNumber}
+use Rattle.pillar.specs.Interface.{numberOr, bytesOr, keptNumber, keptPage, outcomeOn, performedNumber, performedPage, freshNumber, freshPage, callNumber}
 use Rattle.pillar.specs.Interface.{callPage, performedLetter, callLetter}
 use Rattle.pillar.proofs.Kept.{kept-refused}
-use Rattle.pillar.specs.Laws.{callPages, Laws}
+use Rattle.pillar.specs.Laws.{callPages, LawsOf, Laws}
 
 module _ (rows : List EventRow) where
   -- ---- a sound record goes to the writer
@@ -59,6 +62,19 @@ module _ (rows : List EventRow) where
           → numberOr a (answerNumber (cond (soundMeter rows (o .meter)) (cond (leb size (length page)) Accepted (Refused 8)) (Refused 12)))
           ≡ numberOr a (cond (leb size (length page)) 0 8)
       go Accepted s = rw (s refl) (fits (leb size (length page)))
+      go (Refused n) s = refl
+
+  kept-bytes : (o : Outcome) (page : List ℕ) → (o .answer ≡ Accepted → soundMeter rows (o .meter) ≡ true)
+      → keptPage rows o page ≡ bytesOr (o .answer) (cond (leb size (length page)) (pageOf (o .meter) ++ drop size page) page) page
+  unfolding keptPage written
+  kept-bytes o page sound = go (o .answer) sound
+    where
+      fitting : List ℕ
+      fitting = cond (leb size (length page)) (pageOf (o .meter) ++ drop size page) page
+
+      go : (a : Answer) → (a ≡ Accepted → soundMeter rows (o .meter) ≡ true)
+          → bytesOr a (cond (soundMeter rows (o .meter)) fitting page) page ≡ bytesOr a fitting page
+      go Accepted s = rw (s refl)
       go (Refused n) s = refl
 
   module _ (o : Outcome) (page : List ℕ) (whole : length page ≡ size) where
@@ -307,10 +323,21 @@ module _ (rows : List EventRow) (table : every lawful rows ≡ true) where
         rw (pages-reached (i .1), names, from-record f accepted (callsIn rs) (i .1) .reads)
         (ap letterByte (meter.laws .1 rows table .letters f (callsIn rs) c accepted i))
 
-pub laws : Laws
+-- what a fresh meter leaves names no table
+module _ (rows : List EventRow) (table : every lawful rows ≡ true) (page : List ℕ) (f : Fresh) (range : SettingsInRange f) where
+  fresh-same : (freshNumber rows page f ≡ freshNumber builtIn page f) × (freshPage rows page f ≡ freshPage builtIn page f)
+  fresh-same =
+      let sound = fresh-sound rows table f range in
+      let built-in = fresh-sound builtIn built-in-lawful f range in (
+        kept-answer rows (freshOf f) page sound ∙ sym (kept-answer builtIn (freshOf f) page built-in),
+        kept-bytes rows (freshOf f) page sound ∙ sym (kept-bytes builtIn (freshOf f) page built-in),
+      )
+
+laws-of : (rows : List EventRow) → every lawful rows ≡ true → LawsOf rows
 unfolding callsIn
-laws rows table =
+laws-of rows table =
     record {
+      fresh-any-table = fresh-same rows table;
       fresh-answer = λ page f range. kept-answer rows (freshOf f) page (fresh-sound rows table f range);
       call-no-kind = no-kind rows;
       call-unread = unread rows;
@@ -322,3 +349,6 @@ laws rows table =
       refused-letter = refused-letter rows table;
       account-letter = λ page f rs r c whole e range. account-letter rows table page f rs whole e range r c;
     }
+
+pub laws : Laws
+laws table bytes = laws-of (tableOf table) (bytes-lawful table bytes)

@@ -5,9 +5,10 @@ use mathlib.Core.List.{List, [], _∷_}
 use Prim.Native.Nat.{ℕ}
 use lib.Dec.{leb}
 use lib.ListN.{length}
-use Rattle.base.specs.Tests.{every, within}
+use Rattle.base.specs.Tests.{within}
 use Rattle.codec.specs.Lawful.{Bytes}
-use Rattle.events.specs.Table.{EventRow, lawful}
+use Rattle.events.specs.Table.{EventRow, builtIn}
+use Rattle.tables.specs.Bytes.{tableOf}
 use Rattle.calls.specs.declared.Answer.the-variants.{Accepted, Refused}
 use Rattle.calls.specs.declared.Call.{Call}
 use Rattle.calls.specs.declared.Command.{Command}
@@ -31,6 +32,9 @@ pub record LawsOf (rows : List EventRow) : Type 0 where
   -- the writer refuses only a short buffer: fresh never answers 12
   pub fresh-answer : (page : List ℕ) (f : Fresh) → SettingsInRange f
       → freshNumber rows page f ≡ numberOr (freshOf f .answer) (cond (leb size (length page)) 0 8)
+  -- a fresh page is the same by every table: 'soundness of log codes is against that table', and a fresh meter has no line
+  pub fresh-any-table : (page : List ℕ) (f : Fresh) → SettingsInRange f
+      → (freshNumber rows page f ≡ freshNumber builtIn page f) × (freshPage rows page f ≡ freshPage builtIn page f)
   -- 'kind | 13 | ..; the command's reading fails before the record is touched', and document 02, A3: 'Refusal 13 now means not 1–17': whatever the page
   -- holds
   pub call-no-kind : (page : List ℕ) (r : Command) → within 1 17 (r .kind) ≡ false → callNumber rows page r ≡ 13
@@ -57,6 +61,6 @@ pub record LawsOf (rows : List EventRow) : Type 0 where
       → SettingsInRange f → AllInRange (c ∷ callsIn rs) → callOf r ≡ Ok c
       → callLetter rows (callPages rows (freshPage rows page f) rs) r ≡ letterByte (letter rows f (callsIn rs) c)
 
--- of every event table whose rows are lawful
+-- of every event table, given as any bytes
 abbrev pub Laws : Type 0
-Laws = (rows : List EventRow) → every lawful rows ≡ true → LawsOf rows
+Laws = (table : List ℕ) → Bytes table → LawsOf (tableOf table)

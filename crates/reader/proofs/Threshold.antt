@@ -1,8 +1,9 @@
 -- The reader's test of the bytes: bytes that pass hold thresholds that their fields can hold, and the record of bytes that do not is not sound.
 use Rattle.page.proofs.Common.{_≡_, refl, sym, _∙_, Bool, true, false, _&&_, and-true, List, ℕ, _≤_, arith, leb, ltb, leb-true, le-leb, and-left, and-right}
-use Rattle.page.proofs.Common.{numAt, builtIn, isThreshold, isDuration, awaited, soundSettings, soundLimiter, soundLogs, Meter, scalarsOf, soundMeter}
+use Rattle.page.proofs.Common.{numAt, isThreshold, isDuration, awaited, soundSettings, soundLimiter, soundLogs, Meter, scalarsOf, soundMeter}
 use Rattle.page.proofs.Common.{soundScalars}
 use Rattle.base.specs.Tests.{within}
+use Rattle.events.specs.Table.{EventRow}
 use Rattle.emergency.specs.declared.Emergency.{Emergency}
 use Rattle.emergency.specs.Emergency.{inRanges, soundEmergency}
 use Rattle.emergency.proofs.Kept.{Which, empty, waits, runs, which, profile-part}
@@ -35,10 +36,10 @@ profile-threshold e h = by-state (which e (profile-part e h))
 abbrev thresholds : Meter → Bool
 thresholds m = isThreshold (m .limiter .threshold) && isThreshold (m .emergency .threshold)
 
-thresholds-sound : (m : Meter) → soundMeter builtIn m ≡ true → thresholds m ≡ true
+thresholds-sound : (rows : List EventRow) (m : Meter) → soundMeter rows m ≡ true → thresholds m ≡ true
 unfolding soundMeter
-thresholds-sound m e =
-    let scalars = and-left (soundScalars (scalarsOf m)) (soundLogs builtIn (m .logs)) e in
+thresholds-sound rows m e =
+    let scalars = and-left (soundScalars (scalarsOf m)) (soundLogs rows (m .logs)) e in
     rw (limiter-threshold (m .limiter) (limiter-sound (scalarsOf m) scalars))
     (profile-threshold (m .emergency) (emergency-sound (scalarsOf m) scalars))
 
@@ -64,10 +65,11 @@ module _ (s : List ℕ) where
         leb-true (numAt 4 s 565) 2147483647 (and-right (leb (numAt 4 s 42) 2147483647) (leb (numAt 4 s 565) 2147483647) both),
       )
 
-  -- bytes that do not pass hold no sound record
-  pub failed : isRecord s ≡ false → holdsSound builtIn s ≡ false
+module _ (rows : List EventRow) (s : List ℕ) where
+  -- bytes that do not pass hold no record that is sound, by whatever event table
+  pub failed : isRecord s ≡ false → holdsSound rows s ≡ false
   unfolding holdsSound
-  failed e = go (layout .valid s start) (thresholds (meterIn s)) (soundMeter builtIn (meterIn s)) (thresholds-sound (meterIn s)) e
+  failed e = go (layout .valid s start) (thresholds (meterIn s)) (soundMeter rows (meterIn s)) (thresholds-sound rows (meterIn s)) e
     where
       go : (v t m : Bool) → (m ≡ true → t ≡ true) → v && t ≡ false → v && m ≡ false
       go true t true h e = sym (h refl) ∙ e
@@ -75,6 +77,6 @@ module _ (s : List ℕ) where
       go false t m h e = refl
 
   -- of bytes that pass, the record decides
-  pub passed-sound : isRecord s ≡ true → holdsSound builtIn s ≡ soundMeter builtIn (meterIn s)
+  pub passed-sound : isRecord s ≡ true → holdsSound rows s ≡ soundMeter rows (meterIn s)
   unfolding holdsSound
   passed-sound e = rw (and-left (layout .valid s start) (thresholds (meterIn s)) e)

@@ -1,6 +1,6 @@
 // The page's reader.
 ghost use mathlib.Core.Path.{_≡_};
-ghost use Rattle.events.specs.Table.{builtIn};
+ghost use Rattle.tables.specs.Index.{tableIn};
 ghost use Rattle.page.specs.Layout.{readOf};
 ghost use Rattle.page.specs.Laws.{Laws, WrittenBack};
 ghost use Rattle.page.specs.NearMisses.{NearMisses};
@@ -15,10 +15,10 @@ use page::FIRST_LOG;
 use page::PAGE_LEN;
 
 // The record of a page: 9 if the length is not 599, 10 if a pair differs, 11 if the record would not
-// be sound.
-pub fn read_page(bytes: &[u8]) -> Outcome
-    ensures { λ r. ⌜ r ≡ readOf builtIn (now (bytes .entry)) ⌝ }
-    ensures written_back { λ r. ⌜ WrittenBack builtIn r (now (bytes .entry)) ⌝ }
+// be sound by the event table.
+pub fn read_page(table: &[u16; 256], bytes: &[u8]) -> Outcome
+    ensures { λ r. ⌜ r ≡ readOf (tableIn (now (table .entry))) (now (bytes .entry)) ⌝ }
+    ensures written_back { λ r. ⌜ WrittenBack (tableIn (now (table .entry))) r (now (bytes .entry)) ⌝ }
     ensures laws { λ _. ⌜ Laws ⌝ }
     ensures near_misses { λ _. ⌜ NearMisses ⌝ }
 {
@@ -37,7 +37,7 @@ pub fn read_page(bytes: &[u8]) -> Outcome
     let mut codes = [0u8; 96];
     areas::lines_at(&mut clocks, &mut codes, bytes, FIRST_LOG, &counts);
     let scalars = areas::scalars_at(bytes);
-    if !(scalars.sound() & logs::sound(&counts, &clocks, &codes)) {
+    if !(scalars.sound() & logs::sound(table, &counts, &clocks, &codes)) {
         return Outcome::refused(11);
     }
     Outcome {

@@ -1,7 +1,7 @@
 // The bench program's work, but for reading and writing: the records of its input, the meter that they
 // drive, the lines of its listing; and a whole input at once, from its bytes to the page.
 ghost use mathlib.Core.Path.{_≡_};
-ghost use Rattle.events.specs.Table.{builtIn};
+ghost use Rattle.tables.specs.Index.{tableIn};
 ghost use Rattle.replay.specs.Replay.{replayAnswer, replayed};
 ghost use Rattle.replay.specs.Laws.{Laws};
 ghost use Rattle.replay.specs.Examples.{Examples};
@@ -45,10 +45,10 @@ pub enum Replayed {
     Refused(u8),
 }
 
-// Runs a whole input and writes the page of its history into the first 599 bytes of `page`. Every
-// byte of `page` stays where the answer is not Written.
-pub fn replay(records: &[u8], page: &mut [u8]) -> Replayed
-    ensures { λ r. ⌜ (r ≡ replayAnswer (now (records .entry)) (now (page .entry))) × (now (page .exit) ≡ replayed builtIn (now (records .entry)) (now (page .entry))) ⌝ }
+// Runs a whole input with an event table, and writes the page of its history into the first 599 bytes
+// of `page`. Every byte of `page` stays where the answer is not Written.
+pub fn replay(table: &[u16; 256], records: &[u8], page: &mut [u8]) -> Replayed
+    ensures { λ r. ⌜ (r ≡ replayAnswer (now (records .entry)) (now (page .entry))) × (now (page .exit) ≡ replayed (tableIn (now (table .entry))) (now (records .entry)) (now (page .entry))) ⌝ }
     ensures laws { λ _. ⌜ Laws ⌝ }
     ensures account { λ _. ⌜ AccountLaws ⌝ }
     ensures remote_disconnect { λ _. ⌜ RemoteDisconnectHolds ⌝ }
@@ -74,8 +74,8 @@ pub fn replay(records: &[u8], page: &mut [u8]) -> Replayed
     if records.len() % RECORD_LEN != 0 {
         return Replayed::Short;
     }
-    let last = run::run_from(fresh.meter, records, 1);
-    let written = writer::write_page(last, page);
+    let last = run::run_from(table, fresh.meter, records, 1);
+    let written = writer::write_page(last, table, page);
     match written {
         Answer::Accepted => Replayed::Written,
         // Only a short buffer: whatever the calls were, they leave the meter sound.

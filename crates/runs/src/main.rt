@@ -45,7 +45,8 @@ fn print_last_page(file: i32) {
     let mut records = io::large_buffer();
     let mut page = [0u8; 599];
     let got = io::read_full(file, &mut records);
-    let replayed = replay::replay(&records[..got], &mut page);
+    let table = tables::built_in();
+    let replayed = replay::replay(&table, &records[..got], &mut page);
     let Replayed::Written = replayed else {
         print(b"no page\n");
         return;

@@ -14,7 +14,7 @@ use types.Run.{OneOf, miss}
 use denote.Enum.Declared.{tagOf}
 use borrow.Author.Tests.{le-leb, le-ltb}
 use Rattle.base.specs.Tests.{within, any, gathered}
-use Rattle.events.specs.Table.{builtIn}
+use Rattle.events.specs.Table.{EventRow}
 use Rattle.control.specs.declared.Request.the-variants.{ManualReconnect, LocalDisconnect, LocalReconnect}
 use Rattle.control.specs.declared.Decision.{Decision}
 use Rattle.control.specs.declared.Decision.the-variants.{Move, Stay, NotListed}
@@ -55,10 +55,10 @@ pub judged : (a : Answer) (z : ℤ) (o u : ℕ) → SFits w32 z → a ≡ limits
 judged a z o u h e = rw (same-number z h) at e
 
 -- ---- a call that touches no limiter, by the status's step
-pub left-step : (s : Scalars) (c : AnyCall) → NoLimiter c
-    → stepWith (s .limiter) (s .emergency) (statusStepOf (statusOf s) (result builtIn (statusValues (statusOf s)) c)) ≡ stepOf s (result builtIn (valuesOf s) c)
-left-step s c none =
-    rw (laws .limiters-left builtIn (statusValues (statusOf s)) (s .limiter ∷ []) (s .emergency) c none) (go (result builtIn (statusValues (statusOf s)) c))
+pub left-step : (rows : List EventRow) (s : Scalars) (c : AnyCall) → NoLimiter c
+    → stepWith (s .limiter) (s .emergency) (statusStepOf (statusOf s) (result rows (statusValues (statusOf s)) c)) ≡ stepOf s (result rows (valuesOf s) c)
+left-step rows s c none =
+    rw (laws .limiters-left rows (statusValues (statusOf s)) (s .limiter ∷ []) (s .emergency) c none) (go (result rows (statusValues (statusOf s)) c))
   where
     go : (r : Result) → stepWith (s .limiter) (s .emergency) (statusStepOf (statusOf s) r) ≡ stepOf s (resultWith (s .limiter ∷ []) (s .emergency) r)
     go (refusing n) = refl

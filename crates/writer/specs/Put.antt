@@ -30,9 +30,9 @@ PutLog place count clocks codes out at left =
     zeroPast place count clocks ≡ true → zeroPast place count codes ≡ true
     → left ≡ sets out at (logArea .enc (count, storedLines 32 place clocks codes))
 
--- what is promised of sound logs: their area
-abbrev pub PutSoundLogs : List EventRow → Logs → List ℕ → ℕ → List ℕ → Type 0
-PutSoundLogs rows g out at left = soundArrays rows (g .counts) (g .clocks) (g .codes) ≡ true → left ≡ sets out at (logsArea .enc g)
+-- what is promised of logs that are sound by some event table: their area
+abbrev pub PutSoundLogs : Logs → List ℕ → ℕ → List ℕ → Type 0
+PutSoundLogs g out at left = (rows : List EventRow) → soundArrays rows (g .counts) (g .clocks) (g .codes) ≡ true → left ≡ sets out at (logsArea .enc g)
 
 -- the directory and the areas before the logs
 abbrev pub withScalars : List ℕ → Scalars → List ℕ
@@ -41,6 +41,6 @@ withScalars out s =
     (directory
     ++ (controlArea ⊗ limiterArea ⊗ clockArea ⊗ alarmsArea ⊗ registerArea) .enc (s .control, (s .limiter, (s .clock, (s .alarms, s .errors)))))
 
--- what is promised of a sound record: the writer's answer, and the buffer that it leaves
-abbrev pub WritesSound : List EventRow → Meter → List ℕ → Answer → List ℕ → Type 0
-WritesSound rows m out answer left = soundMeter rows m ≡ true → (answer ≡ writeAnswer rows m out) × (left ≡ written rows m out)
+-- what is promised of a record that is sound by some event table: the writer's answer, and the buffer that it leaves
+abbrev pub WritesSound : Meter → List ℕ → Answer → List ℕ → Type 0
+WritesSound m out answer left = (rows : List EventRow) → soundMeter rows m ≡ true → (answer ≡ writeAnswer rows m out) × (left ≡ written rows m out)

@@ -1,7 +1,7 @@
 //! Runs a list from standard input on the proved core, call by call, and prints
 //! for each call its position and the letter of the move that it made, or `none`.
 
-use pillar::{PAGE, Settings};
+use pillar::{BUILT_IN, PAGE, Settings};
 use std::io::{Read, Result, stdin};
 use std::process::ExitCode;
 
@@ -21,7 +21,7 @@ fn main() -> Result<ExitCode> {
             }
             continue;
         }
-        match pillar::call(&mut page, kind, numbers).letter {
+        match pillar::call(&mut page, BUILT_IN, kind, numbers).letter {
             Some(letter) => println!("{place} {}", letter.as_char()),
             None => println!("{place} none"),
         }

@@ -1,6 +1,6 @@
 //! Document 01's worked example on the proved core: prints its listing.
 
-use pillar::{Answer, PAGE, Settings};
+use pillar::{Answer, BUILT_IN, PAGE, Settings};
 
 /// Where the page has the control state and the openings.
 const CONTROL_STATE: usize = 37;
@@ -35,7 +35,7 @@ fn main() {
     let answer = pillar::fresh(&mut page, settings);
     print(1, answer, &page);
     for (position, (kind, number)) in (2..).zip(CALLS) {
-        let called = pillar::call(&mut page, kind, [number as u32, 0, 0, 0, 0]);
+        let called = pillar::call(&mut page, BUILT_IN, kind, [number as u32, 0, 0, 0, 0]);
         print(position, called.answer, &page);
     }
 }

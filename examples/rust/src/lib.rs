@@ -5,6 +5,11 @@
 //! they were; a call hands on the [`Letter`] of the move that it made. Whatever
 //! is passed is safe: a slice goes over as its pointer and its length, and the
 //! core judges the length.
+//!
+//! Whatever reads a page or runs a list takes the bytes of a table of events:
+//! [`BUILT_IN`], or a harbour's own, which [`table`] judges. One table belongs to
+//! one page. No call refuses a table: where its bytes are no good one, the built-in
+//! table serves.
 
 mod letter;
 #[cfg(not(feature = "stand-in"))]
@@ -21,6 +26,9 @@ pub use letter::Letter;
 
 /// The page's length, `PILLAR_PAGE_SIZE`.
 pub const PAGE: usize = 599;
+
+/// The built-in table of events: no bytes.
+pub const BUILT_IN: &[u8] = &[];
 
 /// Whether plain runs here in the proved core's place.
 pub const STAND_IN: bool = cfg!(feature = "stand-in");
@@ -51,6 +59,11 @@ pub fn fresh(page: &mut [u8], settings: Settings) -> Answer {
     answer(core::fresh(page, settings))
 }
 
+/// Whether these bytes are a good table of events: 17, 18 or 19.
+pub fn table(table: &[u8]) -> Answer {
+    answer(core::table(table))
+}
+
 /// Runs one call on the meter whose page is lent; the kinds and their numbers
 /// are those of `enum pillar_kind`. 13 by the kind, then 9, 10 or 11 from the
 /// reader, then the call's own refusal.
@@ -59,8 +72,8 @@ pub fn fresh(page: &mut [u8], settings: Settings) -> Answer {
 ///
 /// If the archive leaves a byte for the letter that is none. The proved core
 /// never does.
-pub fn call(page: &mut [u8], kind: u32, numbers: [u32; 5]) -> Called {
-    let (number, letter) = core::call(page, kind, numbers);
+pub fn call(page: &mut [u8], table: &[u8], kind: u32, numbers: [u32; 5]) -> Called {
+    let (number, letter) = core::call(page, table, kind, numbers);
     Called {
         answer: answer(number),
         letter: Letter::of_byte(letter),
@@ -69,13 +82,13 @@ pub fn call(page: &mut [u8], kind: u32, numbers: [u32; 5]) -> Called {
 
 /// Runs a list of 21-byte records and writes the last meter's page: 100 (no
 /// byte), 102 (a cut record), 101 (the first is not fresh), 1, 4, 5 or 8.
-pub fn replay(records: &[u8], page: &mut [u8]) -> Answer {
-    answer(core::replay(records, page))
+pub fn replay(records: &[u8], table: &[u8], page: &mut [u8]) -> Answer {
+    answer(core::replay(records, table, page))
 }
 
-/// Whether the reader takes this page: 9, 10 or 11.
-pub fn check(page: &[u8]) -> Answer {
-    answer(core::check(page))
+/// Whether the reader takes this page under this table: 9, 10 or 11.
+pub fn check(page: &[u8], table: &[u8]) -> Answer {
+    answer(core::check(page, table))
 }
 
 fn answer(number: u32) -> Answer {

@@ -4,6 +4,8 @@ use crate::Settings;
 
 mod c {
     unsafe extern "C" {
+        pub fn pillar_table(table: *const u8, table_length: usize) -> u32;
+
         pub fn pillar_fresh(
             page: *mut u8,
             length: usize,
@@ -17,6 +19,8 @@ mod c {
         pub fn pillar_call(
             page: *mut u8,
             length: usize,
+            table: *const u8,
+            table_length: usize,
             kind: u32,
             n1: u32,
             n2: u32,
@@ -29,12 +33,24 @@ mod c {
         pub fn pillar_replay(
             records: *const u8,
             records_length: usize,
+            table: *const u8,
+            table_length: usize,
             page: *mut u8,
             page_length: usize,
         ) -> u32;
 
-        pub fn pillar_check(page: *const u8, length: usize) -> u32;
+        pub fn pillar_check(
+            page: *const u8,
+            length: usize,
+            table: *const u8,
+            table_length: usize,
+        ) -> u32;
     }
+}
+
+pub fn table(table: &[u8]) -> u32 {
+    // SAFETY: pointer and length are those of one live slice, which is read only.
+    unsafe { c::pillar_table(table.as_ptr(), table.len()) }
 }
 
 pub fn fresh(page: &mut [u8], settings: Settings) -> u32 {
@@ -61,17 +77,19 @@ pub fn fresh(page: &mut [u8], settings: Settings) -> u32 {
 }
 
 /// The number, and the byte that stands for the letter.
-pub fn call(page: &mut [u8], kind: u32, numbers: [u32; 5]) -> (u32, u8) {
+pub fn call(page: &mut [u8], table: &[u8], kind: u32, numbers: [u32; 5]) -> (u32, u8) {
     let [n1, n2, n3, n4, n5] = numbers;
     let length = page.len();
     // Stands for no letter and not for none, so that a call that stores nothing is noticed.
     let mut letter = u8::MAX;
-    // SAFETY: pointer and length are those of one live, exclusive slice; the letter is a live,
-    // exclusive byte of its own.
+    // SAFETY: pointers and lengths are those of two live slices, the page's exclusive, so that the
+    // table does not overlap it; the letter is a live, exclusive byte of its own.
     let number = unsafe {
         c::pillar_call(
             page.as_mut_ptr(),
             length,
+            table.as_ptr(),
+            table.len(),
             kind,
             n1,
             n2,
@@ -84,14 +102,23 @@ pub fn call(page: &mut [u8], kind: u32, numbers: [u32; 5]) -> (u32, u8) {
     (number, letter)
 }
 
-pub fn replay(records: &[u8], page: &mut [u8]) -> u32 {
-    let (length, page_length) = (records.len(), page.len());
-    // SAFETY: both pairs are those of live slices; the page's is exclusive, so
-    // the two don't overlap.
-    unsafe { c::pillar_replay(records.as_ptr(), length, page.as_mut_ptr(), page_length) }
+pub fn replay(records: &[u8], table: &[u8], page: &mut [u8]) -> u32 {
+    let page_length = page.len();
+    // SAFETY: pointers and lengths are those of live slices; the page's is exclusive, so
+    // that neither of the others overlaps it.
+    unsafe {
+        c::pillar_replay(
+            records.as_ptr(),
+            records.len(),
+            table.as_ptr(),
+            table.len(),
+            page.as_mut_ptr(),
+            page_length,
+        )
+    }
 }
 
-pub fn check(page: &[u8]) -> u32 {
-    // SAFETY: pointer and length are those of one live slice, which is read only.
-    unsafe { c::pillar_check(page.as_ptr(), page.len()) }
+pub fn check(page: &[u8], table: &[u8]) -> u32 {
+    // SAFETY: pointers and lengths are those of two live slices, which are read only.
+    unsafe { c::pillar_check(page.as_ptr(), page.len(), table.as_ptr(), table.len()) }
 }

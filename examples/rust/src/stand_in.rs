@@ -2,7 +2,11 @@
 //! where `libpillar.a` isn't built. It proves nothing about the core.
 
 use crate::Settings;
-use plain::Meter;
+use plain::{Meter, Table};
+
+pub fn table(table: &[u8]) -> u32 {
+    number(Table::load(table))
+}
 
 pub fn fresh(page: &mut [u8], settings: Settings) -> u32 {
     let Settings {
@@ -13,23 +17,28 @@ pub fn fresh(page: &mut [u8], settings: Settings) -> u32 {
         clock,
     } = settings;
     let meter = Meter::fresh(mode, threshold, over, under, clock);
-    number(meter.and_then(|meter| meter.write_page(page)))
+    number(meter.and_then(|meter| meter.write_page(&Table::BuiltIn, page)))
 }
 
 /// The number, and the byte that stands for the letter.
-pub fn call(page: &mut [u8], kind: u32, numbers: [u32; 5]) -> (u32, u8) {
-    let answer = Meter::call_on_page(page, kind, numbers);
+pub fn call(page: &mut [u8], table: &[u8], kind: u32, numbers: [u32; 5]) -> (u32, u8) {
+    let answer = Meter::call_on_page(page, &serving(table), kind, numbers);
     let letter = answer.ok().flatten();
     let byte = letter.map_or(0, |letter| letter.as_char() as u8);
     (number(answer), byte)
 }
 
-pub fn replay(records: &[u8], page: &mut [u8]) -> u32 {
-    number(Meter::replay(records, page))
+pub fn replay(records: &[u8], table: &[u8], page: &mut [u8]) -> u32 {
+    number(Meter::replay(records, &serving(table), page))
 }
 
-pub fn check(page: &[u8]) -> u32 {
-    number(Meter::read_page(page).map(|_| ()))
+pub fn check(page: &[u8], table: &[u8]) -> u32 {
+    number(Meter::read_page(page, &serving(table)))
+}
+
+/// "Without a good table the built-in one serves." (02, A8)
+fn serving(table: &[u8]) -> Table {
+    Table::load(table).unwrap_or_default()
 }
 
 fn number<T>(answer: Result<T, u8>) -> u32 {

@@ -5,7 +5,7 @@ use native.Mathlib.Omega.{arith}
 use lib.Dec.{eqb}
 use lib.ListN.{length}
 use borrow.Author.Needs.{needs}
-use Rattle.events.specs.Table.{builtIn}
+use Rattle.tables.specs.Index.{tableIn}
 use Rattle.meter.specs.declared.Outcome.{Outcome}
 use Rattle.page.specs.Layout.{readOf}
 use Rattle.measure.specs.Rounds.{passing, isAccepted, pageInRound, pageAfterRounds}
@@ -14,14 +14,14 @@ use Rattle.measure.proofs.measure_read.Statement.{statement}
 use Rattle.measure.proofs.measure_read.Tie as tie
 
 abbrev Inv-loop : tie.InvT-loop
-Inv-loop page₀ rounds accepted₀ round₀ page accepted round =
+Inv-loop page₀ rounds table accepted₀ round₀ page accepted round =
     (round ≤ rounds)
-    × (accepted ≡ passing round (λ i. isAccepted (readOf builtIn (pageInRound page₀ i) .answer)))
+    × (accepted ≡ passing round (λ i. isAccepted (readOf (tableIn table) (pageInRound page₀ i) .answer)))
     × (page ≡ pageAfterRounds page₀ round)
     × (length page ≡ length page₀)
 
 abbrev μ-loop : tie.MeasureT-loop
-μ-loop page₀ rounds accepted₀ round₀ page accepted round = rounds - round
+μ-loop page₀ rounds table accepted₀ round₀ page accepted round = rounds - round
 
 loop-holds : tie.Need-loop-holds Inv-loop μ-loop
 unfolding passing pageAfterRounds
@@ -38,13 +38,15 @@ loop-again c =
     let counts = reads .before .before .before .before in
     let turn = counts .before .before .before in
     let l = turn .loop in
-    let page = turn .before .before .args .page .now in
+    let a = turn .before .before .args in
+    let page = a .page .now in
+    let rows = tableIn (a .table .now) in
     let counted : counts .count-round .last .0 ≡ pageInRound page (l .round) = counts .count-round .ensures ∙ rw (l .inv .2) (next-page page (l .round)) in (
       search needs,
-      next-passing (l .round) (l .accepted) (c .one-if .result) (λ i. isAccepted (readOf builtIn (pageInRound page i) .answer)) _ (l .inv .1)
+      next-passing (l .round) (l .accepted) (c .one-if .result) (λ i. isAccepted (readOf rows (pageInRound page i) .answer)) _ (l .inv .1)
           (c .one-if .ensures)
           (ap (λ (k : ℕ). eqb k 0) (c .before .number .ensures)
-          ∙ ap (λ (o : Outcome). isAccepted (o .answer)) (reads .read-page .ensures .0 ∙ ap (readOf builtIn) counted)),
+          ∙ ap (λ (o : Outcome). isAccepted (o .answer)) (reads .read-page .ensures .0 ∙ ap (readOf rows) counted)),
       counted ∙ after-round page (l .round),
       search needs,
     )

@@ -3,7 +3,7 @@ use mathlib.Core.Path.{_≡_, refl, ap, _∙_}
 use Prim.Native.Nat.{_-_, _≤_}
 use native.Mathlib.Omega.{arith}
 use borrow.Author.Needs.{needs}
-use Rattle.events.specs.Table.{builtIn}
+use Rattle.tables.specs.Index.{tableIn}
 use Rattle.meter.specs.Sound.{soundMeter}
 use Rattle.measure.specs.Rounds.{passing, inRound}
 use Rattle.measure.proofs.Rounds.{passing-room, next-passing, same-round}
@@ -11,13 +11,13 @@ use Rattle.measure.proofs.measure_sound.Statement.{statement}
 use Rattle.measure.proofs.measure_sound.Tie as tie
 
 abbrev Inv-loop : tie.InvT-loop
-Inv-loop page rounds meter₀ sound₀ round₀ meter sound round =
+Inv-loop page rounds table meter₀ sound₀ round₀ meter sound round =
     (round ≤ rounds)
-    × (sound ≡ passing round (λ i. soundMeter builtIn (inRound meter₀ i)))
+    × (sound ≡ passing round (λ i. soundMeter (tableIn table) (inRound meter₀ i)))
     × (inRound meter 0 ≡ inRound meter₀ 0)
 
 abbrev μ-loop : tie.MeasureT-loop
-μ-loop page rounds meter₀ sound₀ round₀ meter sound round = rounds - round
+μ-loop page rounds table meter₀ sound₀ round₀ meter sound round = rounds - round
 
 loop-holds : tie.Need-loop-holds Inv-loop μ-loop
 unfolding passing
@@ -31,10 +31,12 @@ add-sound c =
 loop-again : tie.Need-loop-again Inv-loop μ-loop
 loop-again c =
     let l = c .before .before .before .loop in
-    let m = c .before .before .before .before .before .read-page .result .meter in (
+    let read = c .before .before .before .before .before in
+    let m = read .read-page .result .meter in
+    let rows = tableIn (read .before .before .args .table .now) in (
       search needs,
-      next-passing (l .round) (l .sound) (c .one-if .result) (λ i. soundMeter builtIn (inRound m i)) (c .before .sound .result) (l .inv .1) (c .one-if .ensures)
-          (c .before .sound .ensures .0 ∙ ap (soundMeter builtIn) (same-round (l .meter) m (l .round) (l .inv .2))),
+      next-passing (l .round) (l .sound) (c .one-if .result) (λ i. soundMeter rows (inRound m i)) (c .before .sound .result) (l .inv .1) (c .one-if .ensures)
+          (c .before .sound .ensures .0 ∙ ap (soundMeter rows) (same-round (l .meter) m (l .round) (l .inv .2))),
       l .inv .2,
     )
 

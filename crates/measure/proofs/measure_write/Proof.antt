@@ -5,7 +5,7 @@ use native.Mathlib.Omega.{arith}
 use lib.Dec.{eqb}
 use lib.ListN.{length}
 use borrow.Author.Needs.{needs}
-use Rattle.events.specs.Table.{builtIn}
+use Rattle.tables.specs.Index.{tableIn}
 use Rattle.meter.specs.declared.Meter.{Meter}
 use Rattle.page.specs.Layout.{writeAnswer}
 use Rattle.measure.specs.Rounds.{passing, isAccepted, inRound, writtenRounds}
@@ -14,15 +14,15 @@ use Rattle.measure.proofs.measure_write.Statement.{statement}
 use Rattle.measure.proofs.measure_write.Tie as tie
 
 abbrev Inv-loop : tie.InvT-loop
-Inv-loop page₀ rounds meter₀ accepted₀ round₀ page meter accepted round =
+Inv-loop page₀ rounds table meter₀ accepted₀ round₀ page meter accepted round =
     (round ≤ rounds)
-    × (accepted ≡ passing round (λ i. isAccepted (writeAnswer builtIn (inRound meter₀ i) page₀)))
+    × (accepted ≡ passing round (λ i. isAccepted (writeAnswer (tableIn table) (inRound meter₀ i) page₀)))
     × (inRound meter 0 ≡ inRound meter₀ 0)
-    × (page ≡ writtenRounds meter₀ page₀ round)
+    × (page ≡ writtenRounds (tableIn table) meter₀ page₀ round)
     × (length page ≡ length page₀)
 
 abbrev μ-loop : tie.MeasureT-loop
-μ-loop page₀ rounds meter₀ accepted₀ round₀ page meter accepted round = rounds - round
+μ-loop page₀ rounds table meter₀ accepted₀ round₀ page meter accepted round = rounds - round
 
 loop-holds : tie.Need-loop-holds Inv-loop μ-loop
 unfolding passing writtenRounds
@@ -39,17 +39,19 @@ loop-again c =
     let turn = writes .before .before .before in
     let l = turn .loop in
     let m = turn .before .before .read-page .result .meter in
-    let page = turn .before .before .before .before .before .args .page .now in
+    let a = turn .before .before .before .before .before .args in
+    let page = a .page .now in
+    let rows = tableIn (a .table .now) in
     let same = same-round (l .meter) m (l .round) (l .inv .2) in
-    let answers : writes .write-page .result ≡ writeAnswer builtIn (inRound m (l .round)) page =
+    let answers : writes .write-page .result ≡ writeAnswer rows (inRound m (l .round)) page =
     writes .write-page .ensures .0 .0
-    ∙ ap (λ (x : Meter). writeAnswer builtIn x (l .page)) same
-    ∙ answer-by-length (inRound m (l .round)) (l .page) page (l .inv .4) in (
+    ∙ ap (λ (x : Meter). writeAnswer rows x (l .page)) same
+    ∙ answer-by-length rows (inRound m (l .round)) (l .page) page (l .inv .4) in (
       search needs,
-      next-passing (l .round) (l .accepted) (c .one-if .result) (λ i. isAccepted (writeAnswer builtIn (inRound m i) page)) _ (l .inv .1) (c .one-if .ensures)
+      next-passing (l .round) (l .accepted) (c .one-if .result) (λ i. isAccepted (writeAnswer rows (inRound m i) page)) _ (l .inv .1) (c .one-if .ensures)
           (ap (λ (k : ℕ). eqb k 0) (c .before .number .ensures) ∙ ap isAccepted answers),
       l .inv .2,
-      writes .write-page .ensures .0 .1 ∙ rw (same, l .inv .3) (next-written m page (l .round)),
+      writes .write-page .ensures .0 .1 ∙ rw (same, l .inv .3) (next-written rows m page (l .round)),
       search needs,
     )
 

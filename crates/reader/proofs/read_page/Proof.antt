@@ -1,4 +1,6 @@
-use Rattle.page.proofs.Common.{_≡_, _∙_, sym, true, _&&_, List, ℕ, arith, not-true, not-false, ne-eqb, eq-eqb, Bytes, builtIn, soundMeter, needs}
+use Rattle.page.proofs.Common.{_≡_, _∙_, sym, true, _&&_, List, ℕ, arith, not-true, not-false, ne-eqb, eq-eqb, Bytes, soundMeter, needs}
+use Rattle.events.specs.Table.{EventRow}
+use Rattle.tables.specs.Index.{tableIn}
 use Rattle.meter.specs.declared.Outcome.{Outcome}
 use Rattle.page.specs.Layout.{meterIn, isRecord, readOf}
 use Rattle.page.specs.Laws.{Laws, WrittenBack}
@@ -15,18 +17,19 @@ all-bytes : (c : tie.After-shared-slice-known) → Bytes (c .before .args .bytes
 all-bytes c i = omega (arith, c .shared-slice-known .given i)
 
 -- what the reader promises, by what it hands back
-promises : (s : List ℕ) (o : Outcome) → Bytes s → o ≡ readOf builtIn s → (o ≡ readOf builtIn s) × (WrittenBack builtIn o s × (Laws × NearMisses))
-promises s o b e = (e, (written-back builtIn s o b e, (laws, near-misses)))
+promises : (rows : List EventRow) (s : List ℕ) (o : Outcome) → Bytes s → o ≡ readOf rows s
+    → (o ≡ readOf rows s) × (WrittenBack rows o s × (Laws × NearMisses))
+promises rows s o b e = (e, (written-back rows s o b e, (laws, near-misses)))
 
 returns : tie.Need-returns
 unfolding readOf
-returns c = promises _ _ (all-bytes (c .before .before)) (rw (c .refused .ensures, ne-eqb _ _ (c .before .if1 .taken)))
+returns c = promises _ _ _ (all-bytes (c .before .before)) (rw (c .refused .ensures, ne-eqb _ _ (c .before .if1 .taken)))
 
 returns-2 : tie.Need-returns-2
 unfolding readOf
 returns-2 c =
     let d = c .before .before in
-    promises _ _ (all-bytes (d .before .before))
+    promises _ _ _ (all-bytes (d .before .before))
     (rw (c .refused2 .ensures, eq-eqb _ _ (d .before .if1 .left), sym (d .has-pairs .ensures) ∙ not-true _ (c .before .if2 .taken)))
 
 returns-3 : tie.Need-returns-3
@@ -34,9 +37,9 @@ unfolding readOf
 returns-3 c =
     let v = c .before .before in
     let d = v .before .before in
-    let s = d .before .before .before .args .bytes .now in
-    let unsound = failed s (sym (v .is-record .ensures) ∙ not-true _ (c .before .if3 .taken)) in
-    promises _ _ (all-bytes (d .before .before))
+    let a = d .before .before .before .args in
+    let unsound = failed (tableIn (a .table .now)) (a .bytes .now) (sym (v .is-record .ensures) ∙ not-true _ (c .before .if3 .taken)) in
+    promises _ _ _ (all-bytes (d .before .before))
     (rw (c .refused3 .ensures, eq-eqb _ _ (d .before .if1 .left), sym (d .has-pairs .ensures) ∙ not-false _ (v .before .if2 .left), unsound))
 
 -- the scalars, which are read last
@@ -47,14 +50,20 @@ scalars c = c .before .before .before .before .before
 abbrev passed : tie.After-sound2 → tie.Else3
 passed c = scalars c .before .before .before .before .before .before
 
-abbrev bytes : tie.After-sound2 → List ℕ
-bytes c = passed c .before .before .before .before .before .before .args .bytes .now
+abbrev start : tie.After-sound2 → tie.Start
+start c = passed c .before .before .before .before .before .before
 
-tested : (c : tie.After-sound2) → c .before .before .before .before .sound .result && c .sound2 .result ≡ soundMeter builtIn (meterIn (bytes c))
+abbrev bytes : tie.After-sound2 → List ℕ
+bytes c = start c .args .bytes .now
+
+abbrev rows : tie.After-sound2 → List EventRow
+rows c = tableIn (start c .args .table .now)
+
+tested : (c : tie.After-sound2) → c .before .before .before .before .sound .result && c .sound2 .result ≡ soundMeter (rows c) (meterIn (bytes c))
 tested c =
     let lines = scalars c .before in
     let counts = lines .before .before .before .before in
-    parts-sound (bytes c) (scalars c .scalars-at .ensures) (counts .counts-at .ensures) (lines .lines-at .ensures .0) (lines .lines-at .ensures .1)
+    parts-sound (rows c) (bytes c) (scalars c .scalars-at .ensures) (counts .counts-at .ensures) (lines .lines-at .ensures .0) (lines .lines-at .ensures .1)
     _ _
     (c .before .before .before .before .sound .ensures)
     (c .sound2 .ensures)
@@ -73,8 +82,8 @@ returns-4 c =
     let t = c .before .before in
     let v = passed t .before in
     let d = v .before .before in
-    let test = passed-sound (bytes t) (valid t) ∙ sym (tested t) ∙ not-true _ (c .before .if4 .taken) in
-    promises _ _ (all-bytes (d .before .before))
+    let test = passed-sound (rows t) (bytes t) (valid t) ∙ sym (tested t) ∙ not-true _ (c .before .if4 .taken) in
+    promises _ _ _ (all-bytes (d .before .before))
     (rw (c .refused4 .ensures, eq-eqb _ _ (d .before .if1 .left), sym (d .has-pairs .ensures) ∙ not-false _ (v .before .if2 .left), test))
 
 returns-5 : tie.Need-returns-5
@@ -85,10 +94,10 @@ returns-5 c =
     let d = v .before .before in
     let lines = scalars t .before in
     let counts = lines .before .before .before .before in
-    let meter = c .of-parts .ensures ∙ parts-make (bytes t) (scalars t .scalars-at .ensures) (counts .counts-at .ensures)
+    let meter = c .of-parts .ensures ∙ parts-make (rows t) (bytes t) (scalars t .scalars-at .ensures) (counts .counts-at .ensures)
     (lines .lines-at .ensures .0) (lines .lines-at .ensures .1) in
-    let test = passed-sound (bytes t) (valid t) ∙ sym (tested t) ∙ not-false _ (c .before .if4 .left) in
-    promises _ _ (all-bytes (d .before .before))
+    let test = passed-sound (rows t) (bytes t) (valid t) ∙ sym (tested t) ∙ not-false _ (c .before .if4 .left) in
+    promises _ _ _ (all-bytes (d .before .before))
     (rw (meter, eq-eqb _ _ (d .before .if1 .left), sym (d .has-pairs .ensures) ∙ not-false _ (v .before .if2 .left), test))
 
 pub read-page-spec : {M : Type 1} → statement M

@@ -7,8 +7,9 @@ use lib.Dec.{eqb, ltb}
 use lib.ListN.{length}
 use borrow.Author.Needs.{needs}
 use borrow.Author.Tests.{eq-eqb, ne-eqb, lt-ltb, le-ltb}
-use Rattle.events.specs.Table.{builtIn}
-use Rattle.events.proofs.Rule.{built-in-lawful}
+use Rattle.events.specs.Table.{EventRow}
+use Rattle.tables.specs.Index.{tableIn}
+use Rattle.tables.proofs.Index.{table-lawful}
 use Rattle.calls.specs.declared.Command.{Command}
 use Rattle.replay.specs.declared.Replayed.the-variants.{Written, Empty, Bad, Short, Refused}
 use Rattle.replay.specs.Replay.{recordLength, firstIn, startOf, unlessRefused, replayAnswer, replayed}
@@ -37,6 +38,9 @@ input c = c .args .records .now
 
 abbrev buffer : tie.Start → List ℕ
 buffer c = c .args .page .now
+
+abbrev rows : tie.Start → List EventRow
+rows c = tableIn (c .args .table .now)
 
 -- the function's start, from later places
 abbrev start1 : tie.Else1 → tie.Start
@@ -70,37 +74,37 @@ begins c =
 
 page-written : (c : tie.After-write-page)
     → (unlessRefused (c .write-page .result) Written ≡ replayAnswer (input (start-of-page c)) (buffer (start-of-page c)))
-    × (c .write-page .last .1 .0 ≡ replayed builtIn (input (start-of-page c)) (buffer (start-of-page c)))
+    × (c .write-page .last .1 .1 .0 ≡ replayed (rows (start-of-page c)) (input (start-of-page c)) (buffer (start-of-page c)))
 page-written c =
     let run = c .before .before in
     let whole = run .before in
     let fresh = whole .before .before .before in
     let known = fresh .before .before .before .before .before .before .before in
-    ended builtIn built-in-lawful (begins fresh) (λ i. omega (arith, known .shared-slice-known .given i)) (whole .before .enum-told .given .1)
+    ended (rows (start-of-page c)) (table-lawful (start-of-page c .args .table .now)) (begins fresh) (λ i. omega (arith, known .shared-slice-known .given i)) (whole .before .enum-told .given .1)
     (eq-eqb _ _ (whole .if4 .left))
-    (run .run-from .result) (c .write-page .result) (c .write-page .last .1 .0) (run .run-from .ensures) (c .write-page .ensures .0)
+    (run .run-from .result) (c .write-page .result) (c .write-page .last .1 .1 .0) (run .run-from .ensures) (c .write-page .ensures .0)
 
 returns : tie.Need-returns
 unfolding replayAnswer
-returns c = (with-bytes builtIn _ _ Empty (rw (eq-eqb _ _ (c .if1 .taken))), claims)
+returns c = (with-bytes _ _ _ Empty (rw (eq-eqb _ _ (c .if1 .taken))), claims)
 
 returns-2 : tie.Need-returns-2
 unfolding replayAnswer
-returns-2 c = (with-bytes builtIn _ _ Short (rw (some (c .before), lt-ltb _ _ (c .if2 .taken))), claims)
+returns-2 c = (with-bytes _ _ _ Short (rw (some (c .before), lt-ltb _ _ (c .if2 .taken))), claims)
 
 returns-3 : tie.Need-returns-3
 unfolding replayAnswer
 returns-3 c =
     let first = c .before .before in
     let other = rw (kind-read first) at (ne-eqb _ _ (c .if3 .taken)) in
-    (with-bytes builtIn _ _ Bad (rw (some (first .before .before), first-whole (first .before), other)), claims)
+    (with-bytes _ _ _ Bad (rw (some (first .before .before), first-whole (first .before), other)), claims)
 
 returns-4 : tie.Need-returns-4
-returns-4 c = (with-bytes builtIn _ _ (Refused _) (begins (c .before .before .before) .answer ∙ rw (c .before .answer .given .1)), claims)
+returns-4 c = (with-bytes _ _ _ (Refused _) (begins (c .before .before .before) .answer ∙ rw (c .before .answer .given .1)), claims)
 
 returns-5 : tie.Need-returns-5
 returns-5 c =
-    (with-bytes builtIn _ _ Short (begins (c .before .before .before) .answer ∙ rw (c .before .enum-told .given .1, ne-eqb _ _ (c .if4 .taken))), claims)
+    (with-bytes _ _ _ Short (begins (c .before .before .before) .answer ∙ rw (c .before .enum-told .given .1, ne-eqb _ _ (c .if4 .taken))), claims)
 
 returns-6 : tie.Need-returns-6
 returns-6 c = (rw (c .enum-told2 .given .1) at (page-written (c .before .before .before .before)), claims)

@@ -1,5 +1,7 @@
 use Rattle.page.proofs.Common.{_≡_, _∙_, sym, ap, _&&_, List, ℕ, _<_, _^_, arith, getD, take, Width, w8, w16, w32, Fits, bits, needs, not-true, not-false}
-use Rattle.page.proofs.Common.{builtIn, Accepted, Refused, soundScalars, Meter, soundMeter}
+use Rattle.page.proofs.Common.{Accepted, Refused, soundScalars, Meter, soundMeter}
+use Rattle.events.specs.Table.{EventRow}
+use Rattle.tables.specs.Index.{tableIn}
 use Rattle.calls.specs.declared.Answer.{Answer}
 use Rattle.meter.proofs.Tail.{sound-is}
 use Rattle.page.specs.Layout.{size, writeAnswer, written, acceptedOutcome, readOf}
@@ -19,10 +21,10 @@ scalars-tested c = c .before .before .before .before .before
 abbrev start : tie.After-sound2 → tie.Start
 start c = scalars-tested c .before .before .before
 
-tested : (c : tie.After-sound2) → scalars-tested c .sound .result && c .sound2 .result ≡ soundMeter builtIn (start c .args .t1)
+tested : (c : tie.After-sound2) → scalars-tested c .sound .result && c .sound2 .result ≡ soundMeter (tableIn (start c .args .table .now)) (start c .args .t1)
 tested c =
     let s = scalars-tested c in
-    sound-is builtIn (start c .args .t1) _ _ (s .sound .ensures ∙ ap soundScalars (s .before .scalars .ensures)) (c .sound2 .ensures)
+    sound-is (tableIn (start c .args .table .now)) (start c .args .t1) _ _ (s .sound .ensures ∙ ap soundScalars (s .before .scalars .ensures)) (c .sound2 .ensures)
 
 fits : (w : Width) (n : ℕ) → Fits w n → n < 2 ^ bits w
 fits w n f = f .fits
@@ -43,22 +45,23 @@ typed c =
       codes = λ i. fits w8 (getD (c .args .t1 .logs .codes) i 0) (search needs);
       id = search needs;
       activation = search needs;
-      eight = search needs;
-      ids = λ i. fits w16 (getD (c .args .t1 .emergency .ids) i 0) (search needs);
+      eight = search (needs, c .good .0 .1 .1 .1 .1 .1 .1 .1 .1 .0 .1 .1 .1 .1 .1 .1 .1 .1 .1 .0);
+      ids = λ i. fits w16 (getD (c .args .t1 .emergency .ids) i 0) (search (needs, c .good .0 .1 .1 .1 .1 .1 .1 .1 .1 .0 .1 .1 .1 .1 .1 .1 .1 .1 .1 .0));
     }
 
 -- what the writer promises, by what it answers and leaves
-writer-promises : (m : Meter) (out : List ℕ) (a : Answer) (left : List ℕ) → Typed m → (a ≡ writeAnswer builtIn m out) × (left ≡ written builtIn m out)
-    → ((a ≡ writeAnswer builtIn m out) × (left ≡ written builtIn m out))
-    × ((a ≡ Accepted → readOf builtIn (take size left) ≡ acceptedOutcome m) × (Demand3 × Examples))
-writer-promises m out a left t e = (e, (λ h. rw (e .1) (laws .by-table builtIn .read-written m out t (sym (e .0) ∙ h)), (demand-3, examples)))
+writer-promises : (rows : List EventRow) (m : Meter) (out : List ℕ) (a : Answer) (left : List ℕ) → Typed m
+    → (a ≡ writeAnswer rows m out) × (left ≡ written rows m out)
+    → ((a ≡ writeAnswer rows m out) × (left ≡ written rows m out))
+    × ((a ≡ Accepted → readOf rows (take size left) ≡ acceptedOutcome m) × (Demand3 × Examples))
+writer-promises rows m out a left t e = (e, (λ h. rw (e .1) (laws .by-table rows .read-written m out t (sym (e .0) ∙ h)), (demand-3, examples)))
 
 returns : tie.Need-returns
 unfolding writeAnswer written
 returns c =
     let e = sym (tested (c .before)) ∙ not-true _ (c .if1 .taken) in
     let a = start (c .before) .args in
-    writer-promises (a .t1) (a .out .now) (Refused 12) (a .out .now) (typed (start (c .before))) (rw e, rw e)
+    writer-promises _ (a .t1) (a .out .now) (Refused 12) (a .out .now) (typed (start (c .before))) (rw e, rw e)
 
 returns-2 : tie.Need-returns-2
 returns-2 c =
@@ -66,7 +69,7 @@ returns-2 c =
     let if1 = wrote .before .before .before .before .before .before in
     let t = if1 .before in
     let same = scalars-tested t .before .scalars .ensures in
-    writer-promises _ _ _ _ (typed (start t)) (rw same at (wrote .write-sound .ensures) (sym (tested t) ∙ not-false _ (if1 .if1 .left)))
+    writer-promises _ _ _ _ _ (typed (start t)) ((rw same at (wrote .write-sound .ensures)) _ (sym (tested t) ∙ not-false _ (if1 .if1 .left)))
 
 pub write-page-spec : {M : Type 1} → statement M
 write-page-spec =

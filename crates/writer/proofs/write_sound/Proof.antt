@@ -1,5 +1,6 @@
-use Rattle.page.proofs.Common.{_≡_, refl, true, needs, lt-leb, le-leb, and-right, builtIn, soundArrays, soundLogs, Meter, scalarsOf, withLogs, soundScalars}
+use Rattle.page.proofs.Common.{_≡_, refl, true, needs, lt-leb, le-leb, and-right, List, soundArrays, soundLogs, Meter, scalarsOf, withLogs, soundScalars}
 use Rattle.page.proofs.Common.{soundMeter}
+use Rattle.events.specs.Table.{EventRow}
 use Rattle.page.specs.Layout.{writeAnswer, written}
 use Rattle.writer.proofs.Stored.{page-left}
 use Rattle.writer.proofs.write_sound.Statement.{statement}
@@ -9,17 +10,17 @@ use Rattle.writer.proofs.write_sound.Tie as tie
 abbrev given : tie.Start → Meter
 given c = withLogs (c .args .scalars) (c .args .counts .now) (c .args .clocks .now) (c .args .codes .now)
 
-logs-sound : (m : Meter) → soundMeter builtIn m ≡ true → soundArrays builtIn (m .logs .counts) (m .logs .clocks) (m .logs .codes) ≡ true
+logs-sound : (rows : List EventRow) (m : Meter) → soundMeter rows m ≡ true → soundArrays rows (m .logs .counts) (m .logs .clocks) (m .logs .codes) ≡ true
 unfolding soundMeter soundLogs
-logs-sound m e = and-right (soundScalars (scalarsOf m)) _ e
+logs-sound rows m e = and-right (soundScalars (scalarsOf m)) _ e
 
 returns : tie.Need-returns
 unfolding writeAnswer written
-returns c e = let l = lt-leb _ _ (c .if1 .taken) in (rw (e, l), rw (e, l))
+returns c rows e = let l = lt-leb _ _ (c .if1 .taken) in (rw (e, l), rw (e, l))
 
 returns-2 : tie.Need-returns-2
 unfolding writeAnswer written
-returns-2 c e =
+returns-2 c rows e =
     let last = c .before .before in
     let g = last .before .before .before .before in
     let p = g .before .before .before .before in
@@ -29,7 +30,7 @@ returns-2 c e =
       rw (e, l),
       rw (e, l)
           (page-left (s .args .out .now) (p .put-scalars .last .0) (g .put-logs .last .0) (last .put-emergency .last .0) (given s) _ room refl
-          (p .put-scalars .ensures) (g .put-logs .ensures (logs-sound (given s) e)) (last .put-emergency .ensures)),
+          (p .put-scalars .ensures) (g .put-logs .ensures rows (logs-sound rows (given s) e)) (last .put-emergency .ensures)),
     )
 
 pub write-sound-spec : {M : Type 1} → statement M

@@ -1,7 +1,7 @@
 use mathlib.Core.Path.{_≡_, ap, sym, _∙_}
 use mathlib.Core.Logic.{⊎-elim}
 use borrow.Author.Needs.{needs}
-use Rattle.events.specs.Table.{builtIn}
+use Rattle.tables.specs.Index.{tableIn}
 use Rattle.steps.specs.Step.{quietSample}
 use Rattle.meter.specs.State.{withLogs}
 use Rattle.meter.proofs.Tail.{quiet-left}
@@ -21,7 +21,7 @@ apply-sound-spec =
     let a = call .before .before .args in
     let m = withLogs (a .scalars) (a .counts .now) (a .clocks .now) (a .codes .now) in
     rw (call .call .given .1)
-    (quiet-left builtIn m (call .call .given .0 .0) (sampled .quiet-sample .result)
+    (quiet-left (tableIn (a .table .now)) m (call .call .given .0 .0) (sampled .quiet-sample .result)
     (sampled .quiet-sample .ensures ∙ ap (quietSample (a .scalars)) (search needs)) (c .before .if1 .taken)))
     (λ c κs. search needs)
     (λ c. rw (← same-call (c .before .before .before .before)) (c .carry-out .ensures)))

@@ -1,7 +1,7 @@
 use Prim.Native.Nat.{_≤_}
 use lib.ListN.{length}
 use borrow.Author.Needs.{needs}
-use Rattle.events.specs.Table.{builtIn}
+use Rattle.tables.specs.Index.{tableIn}
 use Rattle.logs.specs.Layout.{arrays}
 use Rattle.steps.specs.Step.{resultOf}
 use Rattle.meter.specs.State.{withLogs}
@@ -11,7 +11,7 @@ use Rattle.meter.proofs.parts.carry_out.Tie as tie
 
 room : (c : tie.After-step)
     → (c .step .result .count ≤ length (c .step .result .clocks)) × (c .step .result .count ≤ length (c .step .result .codes))
-room c = lines-room (c .step .result) (c .before .args .scalars) (resultOf builtIn (c .before .args .scalars) (c .before .args .call)) (c .step .ensures)
+room c = lines-room (c .step .result) (c .before .args .scalars) (resultOf (tableIn (c .before .args .table .now)) (c .before .args .scalars) (c .before .args .call)) (c .step .ensures)
 
 -- the step, before the arrays are lent to what clears a log
 abbrev stepped : tie.After-clear-log → tie.After-step
@@ -30,7 +30,7 @@ carry-out-spec =
     let clear = lines .before .before .before .before .before .before .before .before in
     let s = stepped clear in
     let a = s .before .args in
-    finished builtIn (withLogs (a .scalars) (a .counts .now) (a .clocks .now) (a .codes .now)) (a .call) (s .step .result)
+    finished (tableIn (a .table .now)) (withLogs (a .scalars) (a .counts .now) (a .clocks .now) (a .codes .now)) (a .call) (s .step .result)
     (arrays (clear .clear-log .last .0) (clear .clear-log .last .1 .0) (clear .clear-log .last .1 .1 .0))
     (arrays (lines .append-lines .last .0) (lines .append-lines .last .1 .0) (lines .append-lines .last .1 .1 .0))
     (s .step .ensures) (clear .clear-log .ensures) (lines .append-lines .ensures .0)))
