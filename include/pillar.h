@@ -10,12 +10,13 @@
  * on x86-64 in a static program; no proof covers it). Two threads may call it at
  * once on pages, letters and answer buffers of their own; they may share a table.
  *
- * The archive has five functions: pillar_table, pillar_fresh, pillar_call,
- * pillar_replay and pillar_check. Each answers 0, or the number of a refusal. On
- * a refusal every byte of the page is as it was. Each is proved to answer and to
- * write what crates/pillar/specs/Interface.antt says (of pillar_table,
- * crates/tables/specs/Bytes.antt; of pillar_replay,
- * crates/replay/specs/Replay.antt), for every length and every number. The rest
+ * The archive has six functions: pillar_table, pillar_fresh, pillar_call,
+ * pillar_replay, pillar_check and pillar_request. Each answers 0, or the number
+ * of a refusal. On a refusal every byte of the page is as it was. Each is proved
+ * to answer and to write what crates/pillar/specs/Interface.antt says (of
+ * pillar_table, crates/tables/specs/Bytes.antt; of pillar_replay,
+ * crates/replay/specs/Replay.antt; of pillar_request,
+ * crates/pillar/specs/Request.antt), for every length and every number. The rest
  * of this header, names, offsets and inline functions, is not proved: the gate
  * compares it with what the archive writes and answers (tests/header).
  *
@@ -47,7 +48,7 @@ extern "C" {
  * length or its pairs.
  */
 #define PILLAR_VERSION_MAJOR 5
-#define PILLAR_VERSION_MINOR 0
+#define PILLAR_VERSION_MINOR 1
 #define PILLAR_VERSION_PATCH 0
 #define PILLAR_VERSION \
     (PILLAR_VERSION_MAJOR * 10000 + PILLAR_VERSION_MINOR * 100 + PILLAR_VERSION_PATCH)
@@ -237,6 +238,8 @@ enum pillar_answer {
     PILLAR_REFUSED_TABLE_LENGTH = 17,  /* table: not 1 to 64 whole lines */
     PILLAR_REFUSED_TABLE_CODE = 18,    /* table: code barred, or not above the line before */
     PILLAR_REFUSED_TABLE_LINE = 19,    /* table: log not 1 to 3, or a bit of 32 to 254 */
+    PILLAR_REFUSED_REQUEST = 20,       /* request: the bytes are no whole request */
+    PILLAR_REFUSED_ANSWER_BUFFER = 21, /* request: answer under PILLAR_ANSWER_BUFFER_SIZE bytes */
     PILLAR_REFUSED_LIST_EMPTY = 100,   /* replay: no byte */
     PILLAR_REFUSED_LIST_BAD = 101,     /* replay: the first record is not of kind 0 */
     PILLAR_REFUSED_LIST_SHORT = 102    /* replay: a record is cut short */
@@ -439,6 +442,64 @@ uint32_t pillar_replay(const uint8_t *records, size_t records_length,
  */
 uint32_t pillar_check(const uint8_t *page, size_t length, const uint8_t *table,
                       size_t table_length);
+
+/* ---- Requests as DLMS bytes ----------------------------------------------
+ *
+ * The network centre's requests as it sends them (document 02, A9): the Green
+ * Book's GET, SET and ACTION normal requests, unciphered, without selective
+ * access. Covered are, as in the Blue Book:
+ *
+ *   class 70, 0-0:96.3.10.255: attribute 2 (boolean), 3 and 4 (enum), only 4
+ *     writable; methods 1 (remote disconnect) and 2 (remote reconnect)
+ *   class 71, 0-0:17.0.0.255: attribute 4, the normal threshold (double-long), 6
+ *     and 7, over and under duration (double-long-unsigned)
+ *   class 1, attribute 2 (double-long-unsigned): 0-0:97.97.0.255, the error
+ *     register; 0-0:97.98.0.255, the alarm register; 0-0:97.98.10.255, the alarm
+ *     filter
+ */
+
+/* The least bytes of an answer buffer. */
+#define PILLAR_ANSWER_BUFFER_SIZE 32
+
+/*
+ * The result that an answer bears, the Green Book's Data-Access-Result or
+ * Action-Result: the first of object-undefined, type-unmatched and
+ * read-write-denied that holds, else success. A GET that reads has its data in
+ * the result's place.
+ */
+enum pillar_access_result {
+    PILLAR_ACCESS_SUCCESS = 0,
+    PILLAR_ACCESS_READ_WRITE_DENIED = 3, /* not writable, or the named call is refused */
+    PILLAR_ACCESS_OBJECT_UNDEFINED = 4,  /* no such object, attribute or method */
+    PILLAR_ACCESS_TYPE_UNMATCHED = 12    /* data of another type, or a method without data */
+};
+
+/*
+ * Answers a request on the meter of a page, under the page's table. The answer goes into the first bytes
+ * of `answer`, *answer_length is how many, and *letter is the letter of the move
+ * that the named call made, as pillar_call stores it. Both are always stored: 0
+ * and PILLAR_LETTER_NONE where there is no answer or no move.
+ *
+ * It answers PILLAR_REFUSED_ANSWER_BUFFER, then PILLAR_REFUSED_PAGE_LENGTH,
+ * .._PAGE_PAIRS, .._PAGE_UNSOUND, then PILLAR_REFUSED_REQUEST; else
+ * PILLAR_ACCEPTED, whatever the result.
+ *
+ * A SET of an attribute of class 71 is pillar_set_limiter with the other two
+ * kept; of the control mode, pillar_set_control_mode; of the alarm filter,
+ * pillar_set_alarm_filter; of the errors or the alarms, pillar_clear_errors or
+ * pillar_clear_alarms with the bits that are zero in the value. The page is
+ * written only after a SET or an ACTION whose result is success. A refusal leaves
+ * page and answer buffer as they were; the buffer's bytes past an answer always
+ * stay.
+ *
+ * No two of page, answer, *answer_length and *letter overlap, nor does any of
+ * them overlap the table or the request.
+ */
+uint32_t pillar_request(uint8_t *page, size_t length, const uint8_t *table,
+                        size_t table_length, const uint8_t *request,
+                        size_t request_length, uint8_t *answer,
+                        size_t answer_size, size_t *answer_length,
+                        uint8_t *letter);
 
 /* ---- The seventeen calls by name -----------------------------------------
  *

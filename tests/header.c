@@ -930,6 +930,107 @@ static void emergency(void)
     groups_hold(4);
 }
 
+/* ---- Requests as DLMS bytes ---------------------------------------------- */
+
+/* More bytes than an answer buffer must have, filled anew before each request. */
+static uint8_t answer[2 * PILLAR_ANSWER_BUFFER_SIZE];
+enum { FILL = 0x5a };
+
+/* What a request answers into so many bytes, under the built-in table; behind the expected answer the buffer keeps its bytes. */
+static uint32_t requested(const uint8_t *request, size_t length, uint32_t size, const uint8_t *expected, uint32_t expected_length)
+{
+    size_t answer_length = ROOM;
+    memset(answer, FILL, sizeof answer);
+    letter = UNSTORED;
+    uint32_t number = pillar_request(METER, request, length, answer, size, &answer_length, &letter);
+    SAME(expected_length, (uint32_t)answer_length);
+    for (uint32_t i = 0; i < sizeof answer; i++)
+        SAME(i < expected_length ? expected[i] : (uint32_t)FILL, answer[i]);
+    return number;
+}
+
+/* A request that is answered: class and name, attribute or method, what follows it, the answer behind its first three bytes. */
+struct exchange {
+    uint8_t service;
+    uint8_t object[8];
+    uint8_t member;
+    uint8_t behind[6];
+    uint8_t behind_length;
+    uint8_t answer[6];
+    uint8_t answer_length;
+};
+
+#define CONTROL {0, 70, 0, 0, 96, 3, 10, 255}
+#define LIMITER {0, 71, 0, 0, 17, 0, 0, 255}
+#define ERRORS {0, 1, 0, 0, 97, 97, 0, 255}
+#define ALARMS {0, 1, 0, 0, 97, 98, 0, 255}
+#define ALARM_FILTER {0, 1, 0, 0, 97, 98, 10, 255}
+enum { GET = 0xc0, SET = 0xc1, ACTION = 0xc3, TO_RESPONSE = 4 };
+
+/* In this order on the meter below. */
+static const struct exchange exchanges[] = {
+    {GET, CONTROL, 2, {0}, 1, {0, 0x03, 1}, 3},
+    {GET, CONTROL, 3, {0}, 1, {0, 0x16, PILLAR_CONTROL_STATE_CONNECTED}, 3},
+    {GET, CONTROL, 4, {0}, 1, {0, 0x16, PILLAR_CONTROL_MODE_4}, 3},
+    {GET, LIMITER, 4, {0}, 1, {0, 0x05, 1, 2, 3, 4}, 6},
+    {GET, LIMITER, 6, {0}, 1, {0, 0x06, 0, 1, 5, 6}, 6},
+    {GET, LIMITER, 7, {0}, 1, {0, 0x06, 0, 1, 7, 8}, 6},
+    {GET, ERRORS, 2, {0}, 1, {0, 0x06, 0, 0, 0, PILLAR_ERROR_REPLACE_BATTERY | PILLAR_ERROR_CLOCK_INVALID}, 6},
+    {GET, ALARMS, 2, {0}, 1, {0, 0x06, 0, 0, 0, PILLAR_ALARM_REPLACE_BATTERY}, 6},
+    {GET, ALARM_FILTER, 2, {0}, 1, {0, 0x06, 0x11, 0x12, 0x13, 0x14}, 6},
+    {GET, CONTROL, 1, {0}, 1, {1, PILLAR_ACCESS_OBJECT_UNDEFINED}, 2},
+    {SET, CONTROL, 2, {0, 0x03, 1}, 3, {PILLAR_ACCESS_READ_WRITE_DENIED}, 1},
+    {SET, CONTROL, 3, {0, 0x0f, 1}, 3, {PILLAR_ACCESS_TYPE_UNMATCHED}, 1},
+    {SET, CONTROL, 5, {0, 0x16, 1}, 3, {PILLAR_ACCESS_OBJECT_UNDEFINED}, 1},
+    {SET, CONTROL, 4, {0, 0x16, 7}, 3, {PILLAR_ACCESS_READ_WRITE_DENIED}, 1},
+    {SET, LIMITER, 4, {0, 0x05, 0x80, 0, 0, 0}, 6, {PILLAR_ACCESS_READ_WRITE_DENIED}, 1},
+    {SET, LIMITER, 6, {0, 0x06, 0, 0, 0, 9}, 6, {PILLAR_ACCESS_SUCCESS}, 1},
+    {SET, ERRORS, 2, {0, 0x06, 0xff, 0xff, 0xff, 0xfe}, 6, {PILLAR_ACCESS_SUCCESS}, 1},
+    {GET, ERRORS, 2, {0}, 1, {0, 0x06, 0, 0, 0, PILLAR_ERROR_REPLACE_BATTERY}, 6},
+    {ACTION, CONTROL, 3, {0}, 1, {PILLAR_ACCESS_OBJECT_UNDEFINED, 0}, 2},
+    {ACTION, CONTROL, 1, {0}, 1, {PILLAR_ACCESS_TYPE_UNMATCHED, 0}, 2},
+    {ACTION, CONTROL, 1, {1, 0x0f, 0}, 3, {PILLAR_ACCESS_SUCCESS, 0}, 2},
+};
+
+static void dlms_requests(void)
+{
+    uint8_t request[19] = {GET, 1};
+    ACCEPTED(pillar_fresh(PAGE, PILLAR_CONTROL_MODE_4, 0x01020304, 0x010506, 0x010708, 0));
+    put(PILLAR_OFFSET_ALARM_REGISTER, PILLAR_ALARM_REPLACE_BATTERY);
+    page[PILLAR_OFFSET_ALARM_COUNT] = 1;
+    put(PILLAR_OFFSET_ALARM_FILTER, 0x11121314);
+    put(PILLAR_OFFSET_ERROR_REGISTER, PILLAR_ERROR_REPLACE_BATTERY | PILLAR_ERROR_CLOCK_INVALID);
+    for (at = 0; at < COUNT_OF(exchanges); at++) {
+        const struct exchange *exchange = &exchanges[at];
+        uint8_t expected[9] = {(uint8_t)(exchange->service + TO_RESPONSE), 1, (uint8_t)(0xc0 + at)};
+        request[0] = exchange->service;
+        request[2] = expected[2];
+        memcpy(request + 3, exchange->object, 8);
+        request[11] = exchange->member;
+        memcpy(request + 12, exchange->behind, exchange->behind_length);
+        memcpy(expected + 3, exchange->answer, exchange->answer_length);
+        ACCEPTED(requested(request, 12U + exchange->behind_length, PILLAR_ANSWER_BUFFER_SIZE, expected, 3U + exchange->answer_length));
+        SAME(exchange->service == ACTION && exchange->answer[0] == PILLAR_ACCESS_SUCCESS ? PILLAR_LETTER_B : PILLAR_LETTER_NONE, letter);
+    }
+    FIELD(OVER_DURATION, 9, pillar_get_over_duration(page));
+    FIELD(UNDER_DURATION, 0x010708, pillar_get_under_duration(page));
+    STANDS(DISCONNECTED);
+
+    /* The least buffer, then the page, then the request; the last exchange is refused by its flag. */
+    request[12] = 2;
+    at = 0;
+    while (at < sizeof answer && requested(request, 15, at, answer, 0) == PILLAR_REFUSED_ANSWER_BUFFER)
+        at++;
+    SAME(PILLAR_ANSWER_BUFFER_SIZE, at);
+    SAME(PILLAR_REFUSED_REQUEST, requested(request, 15, at, answer, 0));
+    SAME(PILLAR_LETTER_NONE, letter);
+    page[PILLAR_OFFSET_CONTROL_STATE] = 3;
+    SAME(PILLAR_REFUSED_PAGE_UNSOUND, requested(request, 15, at, answer, 0));
+    page[0] ^= 1;
+    SAME(PILLAR_REFUSED_PAGE_PAIRS, requested(request, 15, at, answer, 0));
+    SAME(PILLAR_REFUSED_ANSWER_BUFFER, requested(request, 15, at - 1, answer, 0));
+}
+
 /* ---- Kinds and refusals -------------------------------------------------- */
 
 static void kinds(void)
@@ -994,6 +1095,7 @@ int main(void)
     refused_letters();
     groups();
     emergency();
+    dlms_requests();
     kinds();
     refusals();
     if (differences != 0)

@@ -4,6 +4,9 @@
 //! of its type. [`Meter`](crate::Meter) bears [`NONE`], and there the compiler
 //! drops each of these branches.
 
+mod request;
+pub use request::*;
+
 pub const NONE: u8 = 0;
 /// "Tripping at power equal to threshold."
 pub const TRIPS_AT_THRESHOLD: u8 = 1;

@@ -1,5 +1,5 @@
 //! The switching core of the pillar meter, written from document 01 and requests
-//! A1, A2, A3, A5, A6 and A8 of document 02, but for one thing: they give the
+//! A1, A2, A3, A5, A6, A8 and A9 of document 02, but for one thing: they give the
 //! faults of a list no numbers, so those of [`Machine::replay`], 100 to 102, and the
 //! order of its refusals are the C interface's (`pillar.h`).
 //!
@@ -8,8 +8,11 @@
 //! of its refusal; a refused call leaves the record as it was. Whatever tests the
 //! record is lent its [`Table`] of events. [`Vectorised`] is the same with a test
 //! of the logs that is tuned for speed. The quotations in the comments are
-//! document 01's, but for those marked (02, A1) to (02, A8).
+//! document 01's, but for those marked (02, A1) to (02, A9).
+//! [`Machine::request`] answers a request as DLMS bytes (02, A9).
 
+pub mod access_result;
+mod apdu;
 mod emergency;
 mod events;
 #[cfg(feature = "faults")]
@@ -22,6 +25,7 @@ mod log;
 mod meter;
 mod page;
 pub mod refusal;
+mod request;
 mod table;
 
 pub use emergency::{
@@ -35,4 +39,5 @@ pub use meter::{
     STANDARD, Vectorised,
 };
 pub use page::{PAGE, PAIRS};
+pub use request::{ANSWER_BUFFER, Answered};
 pub use table::{NO_BIT, OwnTable, TABLE_LINE, TABLE_LINES, Table};

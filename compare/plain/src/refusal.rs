@@ -1,6 +1,7 @@
 //! The refusals by number: 1 to 13 are those of document 01's "Where a call
-//! stops", 14 to 16 those of request A3, 17 to 19 those of request A8; 100 to 102
-//! are the C interface's (`pillar.h`), which numbers the faults of a list.
+//! stops", 14 to 16 those of request A3, 17 to 19 those of request A8, 20 and 21
+//! those of request A9; 100 to 102 are the C interface's (`pillar.h`), which numbers
+//! the faults of a list.
 
 /// "mode above 6" (fresh, call 6)
 pub const MODE: u8 = 1;
@@ -40,6 +41,10 @@ pub const TABLE_LENGTH: u8 = 17;
 pub const TABLE_CODE: u8 = 18;
 /// Table: "log not 1–3 or a bit of 32 to 254" (02, A8)
 pub const TABLE_LINE: u8 = 19;
+/// "bytes that are no whole such request" (02, A9)
+pub const REQUEST: u8 = 20;
+/// "answer buffer under 32 bytes" (02, A9)
+pub const ANSWER_BUFFER: u8 = 21;
 
 /// `PILLAR_REFUSED_LIST_EMPTY`: a list without a byte
 pub const EMPTY_LIST: u8 = 100;

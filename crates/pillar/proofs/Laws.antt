@@ -81,7 +81,7 @@ module _ (rows : List EventRow) where
     full : leb size (length page) ≡ true
     full = le-leb size (length page) (omega arith)
 
-    kept-written : o .answer ≡ Accepted → soundMeter rows (o .meter) ≡ true → keptPage rows o page ≡ pageOf (o .meter)
+    pub kept-written : o .answer ≡ Accepted → soundMeter rows (o .meter) ≡ true → keptPage rows o page ≡ pageOf (o .meter)
     unfolding keptPage written
     kept-written e sound = rw (e, sound, full, drop-of-length-le page {i = size} (omega arith)) (append-nil (pageOf (o .meter)))
 
@@ -124,7 +124,7 @@ module _ (rows : List EventRow) where
         go NoKind names = absurd (call-laws .some-kind r in-kinds names)
 
 -- the record of such a page, and its page
-record Read (rows : List EventRow) (page : List ℕ) (m : Meter) : Type 0 where
+pub record Read (rows : List EventRow) (page : List ℕ) (m : Meter) : Type 0 where
   pub reads : readOf rows page ≡ acceptedOutcome m
   pub back : pageOf m ≡ page
   pub sound : soundMeter rows m ≡ true
@@ -173,7 +173,7 @@ module _ (rows : List EventRow) (table : every lawful rows ≡ true) where
         go Accepted = refl
         go (Refused n) = refl
 
-    page-on : callPage rows page r ≡ pageOf (nextOf rows m r .meter)
+    pub page-on : callPage rows page r ≡ pageOf (nextOf rows m r .meter)
     page-on = page-read ∙ go (nextOf rows m r .answer) refl
       where
         o : Outcome
@@ -202,7 +202,7 @@ module _ (rows : List EventRow) (table : every lawful rows ≡ true) where
   unfolding layout
   held-sized m h = h .0 .1 .1 .1 .1 .1 .0 .1
 
-  from-page : (page : List ℕ) → Bytes page → readOf rows page .answer ≡ Accepted → Read rows page (readOf rows page .meter)
+  pub from-page : (page : List ℕ) → Bytes page → readOf rows page .answer ≡ Accepted → Read rows page (readOf rows page .meter)
   from-page s bytes e =
       let (reads, valid) = accepted-in s e in
       let same : readOf rows s .meter ≡ meterIn s = ap (λ (o : Outcome). o .meter) reads in
@@ -241,7 +241,7 @@ module _ (rows : List EventRow) (table : every lawful rows ≡ true) where
     abbrev reached : List Call → Meter
     reached calls = recordAfter rows (recordOf (freshState f)) calls
 
-    from-record : (calls : List Call) → AllInRange calls → Read rows (pageOf (reached calls)) (reached calls)
+    pub from-record : (calls : List Call) → AllInRange calls → Read rows (pageOf (reached calls)) (reached calls)
     from-record calls i =
         let sound = meter.laws .1 rows table .reached-sound f calls t i in
         let typed : Typed (reached calls) = rw (meter.laws .1 rows table .simulates f calls t i) (account-typed rows table f t calls i) in
@@ -266,7 +266,7 @@ module _ (rows : List EventRow) (table : every lawful rows ≡ true) where
             ∙ ap (λ (m : Meter). pageOf (meterAfter rows m rs)) (behind (recordOf (freshState f)) calls c)
         go NoKind i rest = rest calls i k
 
-  fresh-sound : (f : Fresh) → SettingsInRange f → freshOf f .answer ≡ Accepted → soundMeter rows (freshOf f .meter) ≡ true
+  pub fresh-sound : (f : Fresh) → SettingsInRange f → freshOf f .answer ≡ Accepted → soundMeter rows (freshOf f .meter) ≡ true
   unfolding recordAfter
   fresh-sound f range e =
       ap (soundMeter rows) (fresh-laws .accepted-meter f e)

@@ -1,2 +1,4 @@
 pub mod Interface
 pub mod Laws
+pub mod Request
+pub mod RequestLaws

@@ -12,6 +12,9 @@ ghost use Rattle.meter.specs.Settings.{settingsOf};
 ghost use Rattle.replay.specs.Replay.{replayAnswer, replayed};
 ghost use Rattle.pillar.specs.Interface.{keptNumber, keptPage, freshNumber, freshPage, Called, replayNumber, checkNumber};
 ghost use Rattle.pillar.specs.Laws.{Laws};
+
+mod request;
+
 use calls::Answer;
 use calls::Command;
 use calls::Parsed;

@@ -14,6 +14,7 @@
 mod letter;
 #[cfg(not(feature = "stand-in"))]
 mod linked;
+mod request;
 #[cfg(feature = "stand-in")]
 mod stand_in;
 
@@ -23,6 +24,7 @@ use linked as core;
 use stand_in as core;
 
 pub use letter::Letter;
+pub use request::{ANSWER_BUFFER, Requested, request};
 
 /// The page's length, `PILLAR_PAGE_SIZE`.
 pub const PAGE: usize = 599;

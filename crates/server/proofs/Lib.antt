@@ -1,0 +1,9 @@
+pub mod Scan
+pub mod Signs
+pub mod Accesses
+pub mod Services
+pub mod Items
+pub mod Laws
+pub mod AfterSet
+pub mod Kept
+pub mod History

@@ -1,0 +1,9 @@
+pub mod Objects
+pub mod Reading
+pub mod Naming
+pub mod Access
+pub mod Service
+pub mod Laws
+pub mod Items
+pub mod AfterSet
+pub mod History
