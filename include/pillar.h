@@ -862,6 +862,40 @@ static inline uint16_t pillar_get_group_id(const uint8_t *page, uint32_t place)
     return pillar_get_id(page, PILLAR_OFFSET_GROUP_ID(place));
 }
 
+/* ---- Berths --------------------------------------------------------------
+ *
+ * For the harbour's office (document 02, A10); none of it takes a page.
+ * Each function answers PILLAR_ACCEPTED or one of enum pillar_office_answer:
+ * where several hold, the lowest. On a refusal nothing is written. Each is
+ * proved to answer and to write what document 02 says, for every number.
+ *
+ * What the pointers lend must not overlap.
+ */
+enum pillar_office_answer {
+    PILLAR_REFUSED_BERTH_COUNT = 22,   /* allot: none, or above PILLAR_BERTHS */
+    PILLAR_REFUSED_BERTH_POWER = 23,   /* allot: limit, guarantee or cap negative, or guarantee above cap */
+    PILLAR_REFUSED_GUARANTEE_SUM = 24  /* allot: above the limit */
+};
+
+#define PILLAR_BERTHS 16 /* the most of a column */
+
+/* In watts. */
+struct column_berth {
+    int32_t guarantee;
+    int32_t cap;
+    int32_t demand;    /* negative counts as 0 */
+    int32_t allotment; /* what column_allot gives */
+};
+
+/*
+ * Shares a column's limit among `count` berths. Each first gets the smaller of
+ * its demand and its guarantee; what is left goes in list order, to each up to
+ * the smaller of its demand and its cap. Only allotments are written. Answers
+ * PILLAR_REFUSED_BERTH_COUNT, .._BERTH_POWER (of the limit and of every berth),
+ * then .._GUARANTEE_SUM.
+ */
+uint32_t column_allot(int32_t limit, struct column_berth *berths, size_t count);
+
 #ifdef __cplusplus
 }
 #endif

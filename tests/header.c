@@ -1075,6 +1075,31 @@ static void refusals(void)
     SAME(PILLAR_REFUSED_PAGE_UNSOUND, pillar_check(METER));
 }
 
+/* ---- Berths -------------------------------------------------------------- */
+
+/* The most berths that are taken; the powers that a berth may have. */
+static void berths(void)
+{
+    static struct column_berth column[PILLAR_BERTHS + 2];
+    SAME(PILLAR_REFUSED_BERTH_COUNT, column_allot(0, column, 0));
+    for (at = 1; at <= PILLAR_BERTHS; at++)
+        ACCEPTED(column_allot(0, column, at));
+    SAME(PILLAR_REFUSED_BERTH_COUNT, column_allot(0, column, PILLAR_BERTHS + 1));
+    SAME(PILLAR_REFUSED_BERTH_POWER, column_allot(-1, column, 1));
+
+    struct column_berth two[2] = {{6, 9, 8, -1}, {2, 7, -5, -1}};
+    SAME(PILLAR_REFUSED_GUARANTEE_SUM, column_allot(7, two, 2));
+    SAME((uint32_t)-1, (uint32_t)two[0].allotment);
+    ACCEPTED(column_allot(8, two, 2));
+    SAME(8, (uint32_t)two[0].allotment);
+    SAME(0, (uint32_t)two[1].allotment);
+    SAME(6, (uint32_t)two[0].guarantee);
+    SAME(9, (uint32_t)two[0].cap);
+    SAME(8, (uint32_t)two[0].demand);
+    two[1].cap = 1;
+    SAME(PILLAR_REFUSED_BERTH_POWER, column_allot(8, two, 2));
+}
+
 int main(void)
 {
     sizes();
@@ -1098,6 +1123,7 @@ int main(void)
     dlms_requests();
     kinds();
     refusals();
+    berths();
     if (differences != 0)
         printf("differences: %u\n", differences);
     return differences != 0;

@@ -28,6 +28,9 @@ pub mod refusal;
 mod request;
 mod table;
 
+// Request A10, which stands apart from the meter.
+pub mod berths;
+
 pub use emergency::{
     ACTIVE, EmergencyProfile, GROUPS, Groups, LONGEST_EMERGENCY, NO_PROFILE, WAITING,
 };

@@ -54,3 +54,10 @@ pub const BAD_LIST: u8 = 101;
 /// `PILLAR_REFUSED_LIST_SHORT`: "a cut record, the first too, writes `short` and
 /// ends"
 pub const SHORT_LIST: u8 = 102;
+
+/// "no berth or over sixteen" (02, A10)
+pub const BERTH_COUNT: u8 = 22;
+/// "a negative limit, guarantee or cap, or a guarantee above its cap" (02, A10)
+pub const BERTH_POWER: u8 = 23;
+/// "guarantees summing above the limit" (02, A10)
+pub const GUARANTEE_SUM: u8 = 24;

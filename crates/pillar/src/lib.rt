@@ -3,6 +3,7 @@
 // of a refusal, and a refusal leaves every byte of the page. An event table goes as bytes with each
 // call on a page: those of a good table, or any others, as none at all, for the built-in one.
 // `include/pillar.h` declares them.
+// Apart from the meter stands the function of a column.
 ghost use mathlib.Core.Path.{_≡_};
 ghost use Rattle.events.specs.Table.{builtIn};
 ghost use Rattle.tables.specs.Bytes.{tableRefusal, tableOf};
@@ -13,6 +14,7 @@ ghost use Rattle.replay.specs.Replay.{replayAnswer, replayed};
 ghost use Rattle.pillar.specs.Interface.{keptNumber, keptPage, freshNumber, freshPage, Called, replayNumber, checkNumber};
 ghost use Rattle.pillar.specs.Laws.{Laws};
 
+mod column;
 mod request;
 
 use calls::Answer;

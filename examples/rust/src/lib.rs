@@ -11,6 +11,7 @@
 //! one page. No call refuses a table: where its bytes are no good one, the built-in
 //! table serves.
 
+pub mod harbour;
 mod letter;
 #[cfg(not(feature = "stand-in"))]
 mod linked;

@@ -1,0 +1,4 @@
+pub mod Sharing
+pub mod NearMisses
+pub mod Loops
+pub mod Walking

@@ -1,0 +1,4 @@
+pub mod Allotments
+pub mod Counting
+pub mod Laws
+pub mod NearMisses
