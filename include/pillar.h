@@ -862,9 +862,9 @@ static inline uint16_t pillar_get_group_id(const uint8_t *page, uint32_t place)
     return pillar_get_id(page, PILLAR_OFFSET_GROUP_ID(place));
 }
 
-/* ---- Berths --------------------------------------------------------------
+/* ---- Berths and energy ---------------------------------------------------
  *
- * For the harbour's office (document 02, A10); none of it takes a page.
+ * For the harbour's office (document 02, A10 and A11); none of it takes a page.
  * Each function answers PILLAR_ACCEPTED or one of enum pillar_office_answer:
  * where several hold, the lowest. On a refusal nothing is written. Each is
  * proved to answer and to write what document 02 says, for every number.
@@ -874,7 +874,10 @@ static inline uint16_t pillar_get_group_id(const uint8_t *page, uint32_t place)
 enum pillar_office_answer {
     PILLAR_REFUSED_BERTH_COUNT = 22,   /* allot: none, or above PILLAR_BERTHS */
     PILLAR_REFUSED_BERTH_POWER = 23,   /* allot: limit, guarantee or cap negative, or guarantee above cap */
-    PILLAR_REFUSED_GUARANTEE_SUM = 24  /* allot: above the limit */
+    PILLAR_REFUSED_GUARANTEE_SUM = 24, /* allot: above the limit */
+    PILLAR_REFUSED_SAMPLE_COUNT = 25,  /* energy of day: above PILLAR_DAY_SAMPLES */
+    PILLAR_REFUSED_REMAINDER = 26,     /* join: watt-seconds not below PILLAR_WATT_HOUR */
+    PILLAR_REFUSED_JOINED_ENERGY = 27  /* join: watt-hours above PILLAR_MOST_JOINED */
 };
 
 #define PILLAR_BERTHS 16 /* the most of a column */
@@ -895,6 +898,33 @@ struct column_berth {
  * then .._GUARANTEE_SUM.
  */
 uint32_t column_allot(int32_t limit, struct column_berth *berths, size_t count);
+
+#define PILLAR_DAY_SAMPLES 86400
+#define PILLAR_WATT_HOUR 3600                   /* watt-seconds */
+#define PILLAR_MOST_JOINED (UINT64_C(1) << 53)  /* watt-hours */
+
+/* The places of the energy of a day: whole watt-hours, and watt-seconds below PILLAR_WATT_HOUR. */
+enum pillar_energy {
+    PILLAR_IMPORT_WATT_HOURS = 0,
+    PILLAR_IMPORT_WATT_SECONDS = 1,
+    PILLAR_EXPORT_WATT_HOURS = 2,
+    PILLAR_EXPORT_WATT_SECONDS = 3
+};
+
+/*
+ * The energy of `count` samples of a second each, in watts, 0 to
+ * PILLAR_DAY_SAMPLES of them; export is negative, and is never taken off
+ * import. Answers PILLAR_REFUSED_SAMPLE_COUNT.
+ */
+uint32_t energy_of_day(const int32_t *samples, size_t count, uint64_t day[4]);
+
+/*
+ * Joins another day, or several that are joined, of the same berth or of
+ * another: `day` is then the energy of all their samples together. Answers
+ * PILLAR_REFUSED_REMAINDER (import and export of both), then .._JOINED_ENERGY
+ * (import and export, with the watt-hour that two remainders make).
+ */
+uint32_t energy_join(uint64_t day[4], const uint64_t other[4]);
 
 #ifdef __cplusplus
 }

@@ -1075,7 +1075,10 @@ static void refusals(void)
     SAME(PILLAR_REFUSED_PAGE_UNSOUND, pillar_check(METER));
 }
 
-/* ---- Berths -------------------------------------------------------------- */
+/* ---- Berths and energy --------------------------------------------------- */
+
+/* Whether numbers of more than 32 bits are the same. */
+#define EQUAL(header, core) same(__LINE__, #core, 1, (header) == (core))
 
 /* The most berths that are taken; the powers that a berth may have. */
 static void berths(void)
@@ -1098,6 +1101,34 @@ static void berths(void)
     SAME(8, (uint32_t)two[0].demand);
     two[1].cap = 1;
     SAME(PILLAR_REFUSED_BERTH_POWER, column_allot(8, two, 2));
+}
+
+/* Each number of a day by its place; the most samples, remainders and joined watt-hours. */
+static void energy(void)
+{
+    static int32_t samples[PILLAR_DAY_SAMPLES + 2];
+    uint64_t day[5] = {0, 0, 0, 0, 0}, other[5] = {0, 0, 0, 0, 0};
+    samples[0] = 2 * PILLAR_WATT_HOUR + 5;
+    samples[1] = -3 * PILLAR_WATT_HOUR - 7;
+    SAME(PILLAR_REFUSED_SAMPLE_COUNT, energy_of_day(samples, PILLAR_DAY_SAMPLES + 1, day));
+    EQUAL(0, day[PILLAR_IMPORT_WATT_HOURS]);
+    ACCEPTED(energy_of_day(samples, PILLAR_DAY_SAMPLES, day));
+    EQUAL(2, day[PILLAR_IMPORT_WATT_HOURS]);
+    EQUAL(5, day[PILLAR_IMPORT_WATT_SECONDS]);
+    EQUAL(3, day[PILLAR_EXPORT_WATT_HOURS]);
+    EQUAL(7, day[PILLAR_EXPORT_WATT_SECONDS]);
+
+    other[PILLAR_IMPORT_WATT_SECONDS] = PILLAR_WATT_HOUR;
+    SAME(PILLAR_REFUSED_REMAINDER, energy_join(day, other));
+    other[PILLAR_IMPORT_WATT_SECONDS] = PILLAR_WATT_HOUR - 1;
+    ACCEPTED(energy_join(day, other));
+    EQUAL(3, day[PILLAR_IMPORT_WATT_HOURS]);
+    EQUAL(4, day[PILLAR_IMPORT_WATT_SECONDS]);
+    other[PILLAR_EXPORT_WATT_HOURS] = PILLAR_MOST_JOINED - 2;
+    SAME(PILLAR_REFUSED_JOINED_ENERGY, energy_join(day, other));
+    other[PILLAR_EXPORT_WATT_HOURS] = PILLAR_MOST_JOINED - 3;
+    ACCEPTED(energy_join(day, other));
+    EQUAL(PILLAR_MOST_JOINED, day[PILLAR_EXPORT_WATT_HOURS]);
 }
 
 int main(void)
@@ -1124,6 +1155,7 @@ int main(void)
     kinds();
     refusals();
     berths();
+    energy();
     if (differences != 0)
         printf("differences: %u\n", differences);
     return differences != 0;

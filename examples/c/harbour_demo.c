@@ -1,7 +1,7 @@
 /*
- * Berths of three columns through the C interface (document 02, A10), then wrong
- * input. It prints what tools/harbour prints for the same text of
- * tools/examples, in its words.
+ * Berths of three columns and the energy of two days through the C interface
+ * (document 02, A10 and A11), then wrong input. It prints what tools/harbour
+ * prints for the same texts of tools/examples, in its words.
  *
  *   rt staticlib pillar
  *   gcc -std=c99 -Wall -Wextra -pedantic -Iinclude -o target/harbour_demo examples/c/harbour_demo.c target/staticlib/libpillar.a
@@ -42,6 +42,52 @@ static int columns(void)
     return right & allotted(3, 10000, second, 2);
 }
 
+/* ---- Energy: harbour-samples.txt ----------------------------------------- */
+
+static int32_t samples[PILLAR_DAY_SAMPLES + 1];
+
+/* Appends so many samples of a power. */
+static size_t append(size_t count, int32_t power, size_t times)
+{
+    for (size_t i = 0; i < times; i++)
+        samples[count + i] = power;
+    return count + times;
+}
+
+static void print_energy(const uint64_t *day)
+{
+    printf("import %" PRIu64 " Wh %" PRIu64 " Ws, export %" PRIu64 " Wh %" PRIu64 " Ws\n", day[PILLAR_IMPORT_WATT_HOURS], day[PILLAR_IMPORT_WATT_SECONDS], day[PILLAR_EXPORT_WATT_HOURS], day[PILLAR_EXPORT_WATT_SECONDS]);
+}
+
+/* The day's energy, which is joined to that of the days before. */
+static int joined(unsigned place, size_t count, uint64_t *all)
+{
+    uint64_t day[4];
+    uint32_t answer = energy_of_day(samples, count, day);
+    if (answer != PILLAR_ACCEPTED)
+        return 0;
+    printf("day %u: %zu samples, ", place, count);
+    print_energy(day);
+    return energy_join(all, day) == PILLAR_ACCEPTED;
+}
+
+static int days(void)
+{
+    uint64_t all[4] = {0, 0, 0, 0};
+    size_t count = append(0, 1000, 3599);
+    count = append(count, -250, 100);
+    count = append(count, INT32_MIN, 1);
+    count = append(count, 7, 1);
+    int right = joined(1, count, all);
+    count = append(0, 2000, 1800);
+    count = append(count, 993, 1);
+    count = append(count, -100, 1);
+    right &= joined(2, count, all);
+    printf("joined: ");
+    print_energy(all);
+    return right;
+}
+
 /* ---- Wrong input --------------------------------------------------------- */
 
 /* Whether a refusal came with this number and left what was lent. */
@@ -71,9 +117,27 @@ static int wrong_berths(void)
     return right;
 }
 
+static int wrong_energy(void)
+{
+    const uint64_t before[4] = {PILLAR_MOST_JOINED, 1800, 7, 3599};
+    const uint64_t remainder[4] = {1, 0, 0, PILLAR_WATT_HOUR};
+    const uint64_t carry[4] = {0, 1800, 0, 0};
+    uint64_t day[4];
+    memcpy(day, before, sizeof day);
+    uint32_t answer = energy_of_day(samples, PILLAR_DAY_SAMPLES + 1, day);
+    int right = refused("86401 samples", answer, PILLAR_REFUSED_SAMPLE_COUNT, memcmp(before, day, sizeof day) == 0);
+    answer = energy_join(day, remainder);
+    right &= refused("a remainder of 3600", answer, PILLAR_REFUSED_REMAINDER, memcmp(before, day, sizeof day) == 0);
+    answer = energy_join(day, carry);
+    right &= refused("joined watt-hours above 2^53 by the remainders", answer, PILLAR_REFUSED_JOINED_ENERGY, memcmp(before, day, sizeof day) == 0);
+    return right;
+}
+
 int main(void)
 {
     int right = columns();
+    right &= days();
     right &= wrong_berths();
+    right &= wrong_energy();
     return right ? 0 : 1;
 }

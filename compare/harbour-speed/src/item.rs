@@ -1,10 +1,13 @@
 //! The jobs that are measured.
 
 use crate::side::Side;
-use pillar::harbour::Berth;
+use pillar::harbour::{Berth, Day, Energy};
 
 /// How often a short job is done within one timing.
 const TIMES: u32 = 2_000;
+
+/// The samples of a whole day.
+const SAMPLES: usize = 86_400;
 
 pub struct Item {
     pub name: String,
@@ -16,6 +19,8 @@ pub struct Item {
 }
 
 enum Job {
+    Day(Vec<i32>),
+    Join(Day),
     Allot(i32, Vec<Berth>),
 }
 
@@ -23,6 +28,8 @@ impl Item {
     /// Does the job and answers a digest of what came of it.
     pub fn run(&self, side: &dyn Side, rounds: u32) -> u64 {
         digest(&match &self.job {
+            Job::Day(samples) => side.energy_of_day(samples, rounds),
+            Job::Join(day) => side.join(day, rounds),
             Job::Allot(limit, berths) => side.allot(*limit, berths, rounds),
         })
     }
@@ -35,7 +42,21 @@ impl Item {
 
 /// Every item, in the table's order.
 pub fn items() -> Vec<Item> {
+    let import = day(|place| (place * 7919 % 16_000) as i32);
+    // Its signs have no pattern that a processor could foretell.
+    let both = day(|place| scattered(place) % 16_000);
+    let energy = |watt_hours, watt_seconds| Energy {
+        watt_hours,
+        watt_seconds,
+    };
+    let joined = Day {
+        import: energy(12_345, 2_607),
+        export: energy(678, 3_599),
+    };
     vec![
+        item("energy of a day, import", 1, Job::Day(import)),
+        item("energy of a day, both directions", 1, Job::Day(both)),
+        item("join", TIMES, Job::Join(joined)),
         item("allotment, 1 berth", TIMES, Job::Allot(20_000, berths(1))),
         item(
             "allotment, 16 berths",
@@ -52,6 +73,15 @@ fn item(name: &str, rounds: u32, job: Job) -> Item {
         rounds,
         job,
     }
+}
+
+fn day(power: impl Fn(usize) -> i32) -> Vec<i32> {
+    (0..SAMPLES).map(power).collect()
+}
+
+fn scattered(place: usize) -> i32 {
+    let mixed = (place as u64 + 1).wrapping_mul(0x9e37_79b9_7f4a_7c15);
+    ((mixed ^ (mixed >> 29)).wrapping_mul(0xbf58_476d_1ce4_e5b9) >> 32) as i32
 }
 
 /// Demands below the guarantee, between it and the cap, above the cap and below 0.

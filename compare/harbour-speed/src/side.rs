@@ -1,7 +1,7 @@
 //! What is measured: each function of the proved core beside plain's.
 
-use pillar::harbour::{self, Berth};
-use plain::berths;
+use pillar::harbour::{self, Berth, Day, Energy};
+use plain::{berths, energy};
 use std::hint::black_box;
 
 /// The proved core first, then plain.
@@ -12,6 +12,12 @@ pub const SIDES: usize = 2;
 /// what was done.
 pub trait Side: Sync {
     fn name(&self) -> &'static str;
+
+    /// The energy of the samples.
+    fn energy_of_day(&self, samples: &[i32], rounds: u32) -> Vec<u64>;
+
+    /// Joins the day to nothing, and then to what came of it.
+    fn join(&self, day: &Day, rounds: u32) -> Vec<u64>;
 
     /// Allots to the berths, the limit counting the rounds down.
     fn allot(&self, limit: i32, berths: &[Berth], rounds: u32) -> Vec<u64>;
@@ -25,6 +31,23 @@ impl Side for Proved {
             return "stand-in";
         }
         "proved"
+    }
+
+    fn energy_of_day(&self, samples: &[i32], rounds: u32) -> Vec<u64> {
+        let mut day = Day::default();
+        for _ in 0..rounds {
+            accept(harbour::energy_of_day(black_box(samples), &mut day));
+            black_box(&day);
+        }
+        numbers(&day)
+    }
+
+    fn join(&self, day: &Day, rounds: u32) -> Vec<u64> {
+        let mut joined = Day::default();
+        for _ in 0..rounds {
+            accept(harbour::join(black_box(&mut joined), black_box(day)));
+        }
+        numbers(&joined)
     }
 
     fn allot(&self, limit: i32, berths: &[Berth], rounds: u32) -> Vec<u64> {
@@ -42,6 +65,27 @@ pub struct Plain;
 impl Side for Plain {
     fn name(&self) -> &'static str {
         "idiomatic"
+    }
+
+    fn energy_of_day(&self, samples: &[i32], rounds: u32) -> Vec<u64> {
+        let mut day = energy::Day::default();
+        for _ in 0..rounds {
+            day = accepted(energy::Day::of(black_box(samples)));
+            black_box(&day);
+        }
+        plain_numbers(&day)
+    }
+
+    fn join(&self, day: &Day, rounds: u32) -> Vec<u64> {
+        let day = energy::Day {
+            import: plain_energy(day.import),
+            export: plain_energy(day.export),
+        };
+        let mut joined = energy::Day::default();
+        for _ in 0..rounds {
+            joined = accepted(black_box(joined).joined(*black_box(&day)));
+        }
+        plain_numbers(&joined)
     }
 
     fn allot(&self, limit: i32, berths: &[Berth], rounds: u32) -> Vec<u64> {
@@ -66,4 +110,21 @@ fn accept(answer: pillar::Answer) {
 
 fn accepted<T>(answer: Result<T, u8>) -> T {
     answer.expect("what is measured is accepted")
+}
+
+fn plain_energy(energy: Energy) -> energy::Energy {
+    energy::Energy {
+        watt_hours: energy.watt_hours,
+        watt_seconds: energy.watt_seconds,
+    }
+}
+
+fn numbers(day: &Day) -> Vec<u64> {
+    let energies = [day.import, day.export].map(|each| [each.watt_hours, each.watt_seconds]);
+    energies.concat()
+}
+
+fn plain_numbers(day: &energy::Day) -> Vec<u64> {
+    let energies = [day.import, day.export].map(|each| [each.watt_hours, each.watt_seconds]);
+    energies.concat()
 }

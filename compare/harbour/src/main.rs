@@ -1,7 +1,8 @@
-//! Compares plain with the proved core on a column's berths (02, A10), and tries
-//! their laws.
+//! Compares plain with the proved core on a column's berths, the energy of a day
+//! and joins (02, A10 and A11), and tries their laws.
 
 mod berths;
+mod energy;
 mod options;
 mod planted;
 mod random;
@@ -37,7 +38,11 @@ fn main() -> ExitCode {
     if options.planted {
         return find_planted(&plan);
     }
-    let right = [compared::<berths::Berths>(&plan)];
+    let right = [
+        compared::<berths::Berths>(&plan),
+        compared::<energy::Samples>(&plan),
+        compared::<energy::Joins>(&plan),
+    ];
     if right.iter().all(|right| *right) {
         ExitCode::SUCCESS
     } else {

@@ -1,8 +1,9 @@
 //! The same test against plain with a blunder: it must find each one.
 
 use crate::berths::Berths;
+use crate::energy::{Joins, Samples};
 use crate::run::{Counts, Found, Plan, run};
-use plain::berths;
+use plain::{berths, energy};
 
 type Run = fn(&Plan) -> Result<Counts, Found>;
 
@@ -30,4 +31,21 @@ pub const PLANTED: &[(&str, Run)] = planted![
     Berths berths::HOLDS_GUARANTEES_BACK: "holds back a guarantee that is not demanded",
     Berths berths::DEMAND_PASSED: "allots the cap where less is demanded",
     Berths berths::REFUSAL_CLEARS: "sets the allotments 0 at a refusal",
+    Samples energy::LOWEST_LOST: "loses the lowest power",
+    Samples energy::LOWEST_CUT: "cuts a watt off the lowest power",
+    Samples energy::DIRECTIONS_CANCEL: "takes export off import",
+    Samples energy::DIRECTIONS_EXCHANGED: "exchanges import and export",
+    Samples energy::TAKES_ONE_SAMPLE_MORE: "takes 86,401 samples",
+    Samples energy::TAKES_ONE_SAMPLE_FEWER: "refuses 86,400 samples",
+    Joins energy::CARRY_DROPPED: "drops the carry of a join",
+    Joins energy::CARRY_NOT_JUDGED: "judges 27 without the carry",
+    Joins energy::REMAINDER_3600_TAKEN: "joins a remainder of 3,600",
+    Joins energy::OWN_REMAINDERS_TAKEN: "does not judge the first day's remainders",
+    Joins energy::OTHER_REMAINDERS_TAKEN: "does not judge the second day's remainders",
+    Joins energy::EXPORT_REMAINDERS_TAKEN: "does not judge remainders of export",
+    Joins energy::ANY_JOINED_EXPORT: "does not judge joined export",
+    Joins energy::ANY_JOINED_IMPORT: "does not judge joined import",
+    Joins energy::MOST_JOINED_REFUSED: "refuses 2^53 joined watt-hours",
+    Joins energy::JOINED_BEFORE_REMAINDER: "answers 27 before 26",
+    Joins energy::HOURS_WRAP: "lets joined watt-hours wrap at 64 bits",
 ];

@@ -38,4 +38,10 @@ impl Random {
         let number = self.number();
         (number as i32) >> (number >> 59)
     }
+
+    /// Any number, small ones as often as great ones.
+    pub fn any(&mut self) -> u64 {
+        let shift = self.below(64);
+        self.number() >> shift
+    }
 }

@@ -1,23 +1,34 @@
 //! The two sides: the proved core, and plain with a planted blunder or none.
 
-use pillar::harbour::{self, Berth};
-use plain::berths;
+use pillar::harbour::{self, Berth, Day, Energy};
+use plain::{berths, energy};
 
 /// The functions, as the C interface has them: the answer is 0 or the number
 /// of a refusal, and what is lent holds what was made.
 pub trait Side {
     fn allot(limit: i32, berths: &mut [Berth]) -> u32;
+    fn energy_of_day(samples: &[i32], day: &mut Day) -> u32;
+    fn join(day: &mut Day, other: &Day) -> u32;
 }
 
 /// The archive.
 pub struct Proved;
 
-/// `FAULT` is one of `plain::berths::fault`, or 0 for none.
+/// `FAULT` is one of `plain::berths::fault` or `plain::energy::fault`, whose
+/// numbers differ, or 0 for none.
 pub struct Plain<const FAULT: u8>;
 
 impl Side for Proved {
     fn allot(limit: i32, berths: &mut [Berth]) -> u32 {
         pillar_number(harbour::allot(limit, berths))
+    }
+
+    fn energy_of_day(samples: &[i32], day: &mut Day) -> u32 {
+        pillar_number(harbour::energy_of_day(samples, day))
+    }
+
+    fn join(day: &mut Day, other: &Day) -> u32 {
+        pillar_number(harbour::join(day, other))
     }
 }
 
@@ -35,6 +46,15 @@ impl<const FAULT: u8> Side for Plain<FAULT> {
         }
         plain_number(answer)
     }
+
+    fn energy_of_day(samples: &[i32], day: &mut Day) -> u32 {
+        stored(energy::Day::of_with::<FAULT>(samples), day)
+    }
+
+    fn join(day: &mut Day, other: &Day) -> u32 {
+        let joined = plain_day(day).joined_with::<FAULT>(plain_day(other));
+        stored(joined, day)
+    }
 }
 
 fn plain_berth(berth: &Berth) -> berths::Berth {
@@ -44,6 +64,34 @@ fn plain_berth(berth: &Berth) -> berths::Berth {
         demand: berth.demand,
         allotment: berth.allotment,
     }
+}
+
+fn plain_energy(energy: Energy) -> energy::Energy {
+    energy::Energy {
+        watt_hours: energy.watt_hours,
+        watt_seconds: energy.watt_seconds,
+    }
+}
+
+fn plain_day(day: &Day) -> energy::Day {
+    energy::Day {
+        import: plain_energy(day.import),
+        export: plain_energy(day.export),
+    }
+}
+
+fn stored(answer: Result<energy::Day, u8>, day: &mut Day) -> u32 {
+    if let Ok(made) = answer {
+        let energy = |energy: energy::Energy| Energy {
+            watt_hours: energy.watt_hours,
+            watt_seconds: energy.watt_seconds,
+        };
+        *day = Day {
+            import: energy(made.import),
+            export: energy(made.export),
+        };
+    }
+    plain_number(answer)
 }
 
 fn plain_number<T>(answer: Result<T, u8>) -> u32 {

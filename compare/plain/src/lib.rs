@@ -28,8 +28,9 @@ pub mod refusal;
 mod request;
 mod table;
 
-// Request A10, which stands apart from the meter.
+// Requests A10 and A11, which stand apart from the meter.
 pub mod berths;
+pub mod energy;
 
 pub use emergency::{
     ACTIVE, EmergencyProfile, GROUPS, Groups, LONGEST_EMERGENCY, NO_PROFILE, WAITING,

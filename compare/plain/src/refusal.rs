@@ -61,3 +61,9 @@ pub const BERTH_COUNT: u8 = 22;
 pub const BERTH_POWER: u8 = 23;
 /// "guarantees summing above the limit" (02, A10)
 pub const GUARANTEE_SUM: u8 = 24;
+/// "too many samples" (02, A11)
+pub const SAMPLE_COUNT: u8 = 25;
+/// "a remainder of 3,600 or more" (02, A11)
+pub const REMAINDER: u8 = 26;
+/// "a join whose whole watt-hours are above 2^53" (02, A11)
+pub const JOINED_ENERGY: u8 = 27;

@@ -1,6 +1,7 @@
-//! Berths (02, A10) on numbers worked out by hand.
+//! Berths and energy (02, A10 and A11) on numbers worked out by hand.
 
 use plain::berths::{Berth, allot};
+use plain::energy::{Day, Energy};
 
 // ---- Berths ---------------------------------------------------------------
 
@@ -100,4 +101,134 @@ fn berths_are_refused_in_order() {
     assert_eq!(allotted(-1, &[(-1, 0, 0); 17]), Err(22));
     assert_eq!(allotted(1, &[(2, 2, 0), (0, -1, 0)]), Err(23));
     assert_eq!(allotted(-1, &[(0, 0, 0)]), Err(23));
+}
+
+// ---- Energy ---------------------------------------------------------------
+
+fn energy(watt_hours: u64, watt_seconds: u64) -> Energy {
+    Energy {
+        watt_hours,
+        watt_seconds,
+    }
+}
+
+fn day(import: (u64, u64), export: (u64, u64)) -> Day {
+    Day {
+        import: energy(import.0, import.1),
+        export: energy(export.0, export.1),
+    }
+}
+
+const NOTHING: (u64, u64) = (0, 0);
+
+/// 3599 samples of 1000 W and one of 7 W are 3,599,007 Ws; a hundred of -250 W and
+/// the lowest power are 2,147,508,648 Ws.
+#[test]
+fn import_and_export_are_apart() {
+    let mut samples = vec![1000; 3599];
+    samples.extend([-250; 100]);
+    samples.extend([i32::MIN, 7]);
+    assert_eq!(Day::of(&samples), Ok(day((999, 2607), (596_530, 648))));
+    assert_eq!(Day::of(&[1, -1]), Ok(day((0, 1), (0, 1))));
+}
+
+/// 2^31 Ws and 86,400 times as much.
+#[test]
+fn lowest_power_is_whole() {
+    let lowest = day(NOTHING, (596_523, 848));
+    assert_eq!(Day::of(&[i32::MIN]), Ok(lowest));
+    let longest = day(NOTHING, (51_539_607_552, 0));
+    assert_eq!(Day::of(&[i32::MIN; 86_400]), Ok(longest));
+    // One watt less each: 24 Wh less.
+    let highest = day((51_539_607_528, 0), NOTHING);
+    assert_eq!(Day::of(&[i32::MAX; 86_400]), Ok(highest));
+}
+
+#[test]
+fn remainders_stay_below_a_watt_hour() {
+    assert_eq!(Day::of(&[]), Ok(Day::default()));
+    assert_eq!(Day::of(&[3599]), Ok(day((0, 3599), NOTHING)));
+    assert_eq!(Day::of(&[3599, 1]), Ok(day((1, 0), NOTHING)));
+    assert_eq!(Day::of(&[-3600, -1]), Ok(day(NOTHING, (1, 1))));
+}
+
+#[test]
+fn samples_of_a_day_are_86_400_at_most() {
+    assert_eq!(Day::of(&[1; 86_400]), Ok(day((24, 0), NOTHING)));
+    assert_eq!(Day::of(&[1; 86_401]), Err(25));
+    assert_eq!(Day::of(&[0; 200_000]), Err(25));
+}
+
+#[test]
+fn a_join_carries() {
+    let first = day((999, 2607), (596_530, 648));
+    let second = day((1000, 993), (0, 100));
+    assert_eq!(first.joined(second), Ok(day((2000, 0), (596_530, 748))));
+    assert_eq!(second.joined(first), first.joined(second));
+    let nearly = day((0, 3599), (0, 3599));
+    assert_eq!(nearly.joined(nearly), Ok(day((1, 3598), (1, 3598))));
+}
+
+/// Each of four places of a join.
+fn at_each_place(energy: (u64, u64)) -> [(Day, Day); 4] {
+    let none = Day::default();
+    let [import, export] = [day(energy, NOTHING), day(NOTHING, energy)];
+    [
+        (import, none),
+        (export, none),
+        (none, import),
+        (none, export),
+    ]
+}
+
+#[test]
+fn each_remainder_is_judged() {
+    for remainder in [3600, 3601, 7200, u64::MAX] {
+        for (own, other) in at_each_place((0, remainder)) {
+            assert_eq!(own.joined(other), Err(26), "{own:?} {other:?}");
+        }
+    }
+    for (own, other) in at_each_place((0, 3599)) {
+        assert!(own.joined(other).is_ok());
+    }
+}
+
+const MOST: u64 = 9_007_199_254_740_992;
+
+#[test]
+fn joined_watt_hours_are_2_to_the_53_at_most() {
+    for (own, other) in at_each_place((MOST, 3599)) {
+        assert!(own.joined(other).is_ok());
+    }
+    for more in [MOST + 1, u64::MAX] {
+        for (own, other) in at_each_place((more, 0)) {
+            assert_eq!(own.joined(other), Err(27));
+        }
+    }
+    let half = day((MOST / 2, 0), NOTHING);
+    assert_eq!(half.joined(half), Ok(day((MOST, 0), NOTHING)));
+    // 2^64 watt-hours are not 0.
+    let most = day((u64::MAX, 0), NOTHING);
+    assert_eq!(most.joined(day((1, 0), NOTHING)), Err(27));
+    assert_eq!(most.joined(most), Err(27));
+}
+
+/// "the joined whole watt-hours with the carry"
+#[test]
+fn the_carry_is_judged() {
+    let full = |seconds| day(NOTHING, (MOST - 1, seconds));
+    let joined = full(1800).joined(day(NOTHING, (0, 1800)));
+    assert_eq!(joined, Ok(day(NOTHING, (MOST, 0))));
+    let brimming = day(NOTHING, (MOST, 1800));
+    assert!(brimming.joined(day(NOTHING, (0, 1799))).is_ok());
+    assert_eq!(brimming.joined(day(NOTHING, (0, 1800))), Err(27));
+}
+
+/// 26 in both directions before 27 in either.
+#[test]
+fn joins_are_refused_in_order() {
+    let import_above = day((MOST + 1, 0), (0, 3600));
+    assert_eq!(import_above.joined(Day::default()), Err(26));
+    let export_above = day((0, 3600), (MOST + 1, 0));
+    assert_eq!(Day::default().joined(export_above), Err(26));
 }

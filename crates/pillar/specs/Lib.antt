@@ -2,3 +2,4 @@ pub mod Interface
 pub mod Laws
 pub mod Request
 pub mod RequestLaws
+pub mod Energy

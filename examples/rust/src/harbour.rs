@@ -1,6 +1,6 @@
-//! Safe functions for the harbour's office: a column's berths (document 02, A10).
-//! They stand apart from the meter. What is lent stays as it was where a function
-//! refuses.
+//! Safe functions for the harbour's office: a column's berths, the energy of a
+//! day (document 02, A10 and A11). They stand apart from the meter. What is lent
+//! stays as it was where a function refuses.
 
 use crate::{Answer, answer};
 
@@ -24,10 +24,36 @@ pub struct Berth {
     pub allotment: i32,
 }
 
+/// Energy of one direction: watt-hours, and a remainder of watt-seconds.
+#[repr(C)]
+#[derive(Clone, Copy, Debug, Default, PartialEq, Eq)]
+pub struct Energy {
+    pub watt_hours: u64,
+    pub watt_seconds: u64,
+}
+
+/// The energy of a day, or of several that are joined.
+#[repr(C)]
+#[derive(Clone, Copy, Debug, Default, PartialEq, Eq)]
+pub struct Day {
+    pub import: Energy,
+    pub export: Energy,
+}
+
 /// Allots what the column can carry, `limit` in watts, to its berths: 22, 23 or
 /// 24. Only allotments change.
 pub fn allot(limit: i32, berths: &mut [Berth]) -> Answer {
     answer(core::allot(limit, berths))
+}
+
+/// The energy of samples of one second each, in watts, export being negative: 25.
+pub fn energy_of_day(samples: &[i32], day: &mut Day) -> Answer {
+    answer(core::energy_of_day(samples, day))
+}
+
+/// Joins `other` to `day`, which then has the energy of both: 26 or 27.
+pub fn join(day: &mut Day, other: &Day) -> Answer {
+    answer(core::join(day, other))
 }
 
 #[cfg(test)]
@@ -43,6 +69,11 @@ mod tests {
         assert_eq!(offset_of!(Berth, cap), 4);
         assert_eq!(offset_of!(Berth, demand), 8);
         assert_eq!(offset_of!(Berth, allotment), 12);
+        assert_eq!(size_of::<Day>(), 32);
+        assert_eq!(offset_of!(Day, import.watt_hours), 0);
+        assert_eq!(offset_of!(Day, import.watt_seconds), 8);
+        assert_eq!(offset_of!(Day, export.watt_hours), 16);
+        assert_eq!(offset_of!(Day, export.watt_seconds), 24);
     }
 
     /// A refusal hands its number on and leaves what was lent.
@@ -58,5 +89,12 @@ mod tests {
         assert_eq!(allot(100, &mut []), Err(22));
         assert_eq!(allot(100, &mut berths), Err(23));
         assert_eq!(berths, before);
+
+        let mut day = Day::default();
+        day.export.watt_seconds = 3600;
+        let before = day;
+        assert_eq!(energy_of_day(&[1; 86_401], &mut day), Err(25));
+        assert_eq!(join(&mut day, &Day::default()), Err(26));
+        assert_eq!(day, before);
     }
 }

@@ -1,8 +1,8 @@
 //! Plain behind the proved core's functions, so that the programs can run
 //! where `libpillar.a` isn't built. It proves nothing about the core.
 
-use super::Berth;
-use plain::berths;
+use super::{Berth, Day, Energy};
+use plain::{berths, energy};
 
 pub fn allot(limit: i32, berths: &mut [Berth]) -> u32 {
     let mut given: Vec<_> = berths.iter().map(plain_berth).collect();
@@ -13,6 +13,14 @@ pub fn allot(limit: i32, berths: &mut [Berth]) -> u32 {
     number
 }
 
+pub fn energy_of_day(samples: &[i32], day: &mut Day) -> u32 {
+    store(energy::Day::of(samples), day)
+}
+
+pub fn join(day: &mut Day, other: &Day) -> u32 {
+    store(plain_day(day).joined(plain_day(other)), day)
+}
+
 fn plain_berth(berth: &Berth) -> berths::Berth {
     berths::Berth {
         guarantee: berth.guarantee,
@@ -20,6 +28,34 @@ fn plain_berth(berth: &Berth) -> berths::Berth {
         demand: berth.demand,
         allotment: berth.allotment,
     }
+}
+
+fn plain_energy(energy: Energy) -> energy::Energy {
+    energy::Energy {
+        watt_hours: energy.watt_hours,
+        watt_seconds: energy.watt_seconds,
+    }
+}
+
+fn plain_day(day: &Day) -> energy::Day {
+    energy::Day {
+        import: plain_energy(day.import),
+        export: plain_energy(day.export),
+    }
+}
+
+fn store(answer: Result<energy::Day, u8>, day: &mut Day) -> u32 {
+    if let Ok(plain) = answer {
+        let energy = |energy: energy::Energy| Energy {
+            watt_hours: energy.watt_hours,
+            watt_seconds: energy.watt_seconds,
+        };
+        *day = Day {
+            import: energy(plain.import),
+            export: energy(plain.export),
+        };
+    }
+    number(answer)
 }
 
 fn number<T>(answer: Result<T, u8>) -> u32 {

@@ -1,0 +1,4 @@
+pub mod Sums
+pub mod Negation
+pub mod Joins
+pub mod NearMisses

@@ -1,0 +1,5 @@
+pub mod Energy
+pub mod Days
+pub mod Joins
+pub mod Laws
+pub mod NearMisses
