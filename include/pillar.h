@@ -10,10 +10,11 @@
  * on x86-64 in a static program; no proof covers it). Two threads may call it at
  * once on pages, letters and answer buffers of their own; they may share a table.
  *
- * The archive has six functions: pillar_table, pillar_fresh, pillar_call,
- * pillar_replay, pillar_check and pillar_request. Each answers 0, or the number
- * of a refusal. On a refusal every byte of the page is as it was. Each is proved
- * to answer and to write what crates/pillar/specs/Interface.antt says (of
+ * For a meter the archive has six functions: pillar_table, pillar_fresh,
+ * pillar_call, pillar_replay, pillar_check and pillar_request; for the harbour's
+ * office four, at the end of this header. Each answers 0, or the number of a
+ * refusal. On a refusal every byte of the page is as it was. Each of the six is
+ * proved to answer and to write what crates/pillar/specs/Interface.antt says (of
  * pillar_table, crates/tables/specs/Bytes.antt; of pillar_replay,
  * crates/replay/specs/Replay.antt; of pillar_request,
  * crates/pillar/specs/Request.antt), for every length and every number. The rest
@@ -48,7 +49,7 @@ extern "C" {
  * length or its pairs.
  */
 #define PILLAR_VERSION_MAJOR 5
-#define PILLAR_VERSION_MINOR 1
+#define PILLAR_VERSION_MINOR 4
 #define PILLAR_VERSION_PATCH 0
 #define PILLAR_VERSION \
     (PILLAR_VERSION_MAJOR * 10000 + PILLAR_VERSION_MINOR * 100 + PILLAR_VERSION_PATCH)
@@ -240,6 +241,15 @@ enum pillar_answer {
     PILLAR_REFUSED_TABLE_LINE = 19,    /* table: log not 1 to 3, or a bit of 32 to 254 */
     PILLAR_REFUSED_REQUEST = 20,       /* request: the bytes are no whole request */
     PILLAR_REFUSED_ANSWER_BUFFER = 21, /* request: answer under PILLAR_ANSWER_BUFFER_SIZE bytes */
+    PILLAR_REFUSED_BERTH_COUNT = 22,   /* allot: none, or above PILLAR_BERTHS */
+    PILLAR_REFUSED_BERTH_POWER = 23,   /* allot: limit, guarantee or cap negative, or guarantee above cap */
+    PILLAR_REFUSED_GUARANTEE_SUM = 24, /* allot: above the limit */
+    PILLAR_REFUSED_SAMPLE_COUNT = 25,  /* energy of day: above PILLAR_DAY_SAMPLES */
+    PILLAR_REFUSED_REMAINDER = 26,     /* join: watt-seconds not below PILLAR_WATT_HOUR */
+    PILLAR_REFUSED_JOINED_ENERGY = 27, /* join: watt-hours above PILLAR_MOST_JOINED */
+    PILLAR_REFUSED_PRICE = 28,         /* bill: above PILLAR_HIGHEST_PRICE */
+    PILLAR_REFUSED_REST = 29,          /* bill: not below PILLAR_KILOWATT_HOUR */
+    PILLAR_REFUSED_IMPORT = 30,        /* bill: above PILLAR_MOST_BILLED, or watt-seconds not below PILLAR_WATT_HOUR */
     PILLAR_REFUSED_LIST_EMPTY = 100,   /* replay: no byte */
     PILLAR_REFUSED_LIST_BAD = 101,     /* replay: the first record is not of kind 0 */
     PILLAR_REFUSED_LIST_SHORT = 102    /* replay: a record is cut short */
@@ -862,24 +872,18 @@ static inline uint16_t pillar_get_group_id(const uint8_t *page, uint32_t place)
     return pillar_get_id(page, PILLAR_OFFSET_GROUP_ID(place));
 }
 
-/* ---- Berths and energy ---------------------------------------------------
+/* ---- Berths, energy and tariff -------------------------------------------
  *
- * For the harbour's office (document 02, A10 and A11); none of it takes a page.
- * Each function answers PILLAR_ACCEPTED or one of enum pillar_office_answer:
- * where several hold, the lowest. On a refusal nothing is written. Each is
- * proved to answer and to write what document 02 says, for every number.
+ * For the harbour's office (document 02, A10 to A12); none of it takes a page.
+ * Each function answers PILLAR_ACCEPTED or one of 22 to 30: where several hold,
+ * the lowest. On a refusal nothing is written. What each is proved to answer and
+ * to write, for every number, is said in crates/berths/specs/Allotments.antt,
+ * crates/energy/specs/Days.antt and Joins.antt, and crates/tariff/specs/Bills.antt;
+ * how numbers lie behind the pointers, in crates/pillar/specs/Energy.antt and
+ * Tariff.antt.
  *
  * What the pointers lend must not overlap.
  */
-enum pillar_office_answer {
-    PILLAR_REFUSED_BERTH_COUNT = 22,   /* allot: none, or above PILLAR_BERTHS */
-    PILLAR_REFUSED_BERTH_POWER = 23,   /* allot: limit, guarantee or cap negative, or guarantee above cap */
-    PILLAR_REFUSED_GUARANTEE_SUM = 24, /* allot: above the limit */
-    PILLAR_REFUSED_SAMPLE_COUNT = 25,  /* energy of day: above PILLAR_DAY_SAMPLES */
-    PILLAR_REFUSED_REMAINDER = 26,     /* join: watt-seconds not below PILLAR_WATT_HOUR */
-    PILLAR_REFUSED_JOINED_ENERGY = 27  /* join: watt-hours above PILLAR_MOST_JOINED */
-};
-
 #define PILLAR_BERTHS 16 /* the most of a column */
 
 /* In watts. */
@@ -893,7 +897,8 @@ struct column_berth {
 /*
  * Shares a column's limit among `count` berths. Each first gets the smaller of
  * its demand and its guarantee; what is left goes in list order, to each up to
- * the smaller of its demand and its cap. Only allotments are written. Answers
+ * the smaller of its demand and its cap. Only allotments are written; all
+ * `count` berths are read, also where the count is refused. Answers
  * PILLAR_REFUSED_BERTH_COUNT, .._BERTH_POWER (of the limit and of every berth),
  * then .._GUARANTEE_SUM.
  */
@@ -925,6 +930,22 @@ uint32_t energy_of_day(const int32_t *samples, size_t count, uint64_t day[4]);
  * (import and export, with the watt-hour that two remainders make).
  */
 uint32_t energy_join(uint64_t day[4], const uint64_t other[4]);
+
+#define PILLAR_RATES 4
+#define PILLAR_HIGHEST_PRICE 1000000            /* cents per kilowatt-hour */
+#define PILLAR_KILOWATT_HOUR 3600000            /* watt-seconds */
+#define PILLAR_MOST_BILLED (UINT64_C(1) << 31)  /* watt-hours at a rate */
+
+/*
+ * What the import at each rate costs: `prices` in cents per kilowatt-hour,
+ * `imports` watt-hours and watt-seconds of the first rate, then of the next.
+ * *cents is then the whole cents. *rest comes in as the rest of the bill before,
+ * 0 for the first, and is then that for the next bill: a part of a cent, over
+ * PILLAR_KILOWATT_HOUR. Answers PILLAR_REFUSED_PRICE (of every rate), .._REST,
+ * then .._IMPORT (of every rate).
+ */
+uint32_t tariff_bill(const uint32_t prices[4], const uint64_t imports[8], uint32_t *rest,
+                     uint64_t *cents);
 
 #ifdef __cplusplus
 }

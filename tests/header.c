@@ -1075,7 +1075,7 @@ static void refusals(void)
     SAME(PILLAR_REFUSED_PAGE_UNSOUND, pillar_check(METER));
 }
 
-/* ---- Berths and energy --------------------------------------------------- */
+/* ---- Berths, energy and tariff ------------------------------------------- */
 
 /* Whether numbers of more than 32 bits are the same. */
 #define EQUAL(header, core) same(__LINE__, #core, 1, (header) == (core))
@@ -1131,6 +1131,35 @@ static void energy(void)
     EQUAL(PILLAR_MOST_JOINED, day[PILLAR_EXPORT_WATT_HOURS]);
 }
 
+/* The rates that are judged and charged; the most that a bill takes. */
+static void tariff(void)
+{
+    uint32_t prices[PILLAR_RATES + 1], rest = PILLAR_KILOWATT_HOUR;
+    uint64_t imports[2 * PILLAR_RATES + 2], cents = 77;
+    for (at = 0; at <= PILLAR_RATES; at++) {
+        prices[at] = at < PILLAR_RATES ? PILLAR_HIGHEST_PRICE : UINT32_MAX;
+        imports[2 * at] = at < PILLAR_RATES ? PILLAR_MOST_BILLED : UINT64_MAX;
+        imports[2 * at + 1] = at < PILLAR_RATES ? PILLAR_WATT_HOUR - 1 : UINT64_MAX;
+    }
+    SAME(PILLAR_REFUSED_REST, tariff_bill(prices, imports, &rest, &cents));
+    SAME(PILLAR_KILOWATT_HOUR, rest);
+    EQUAL(77, cents);
+    for (at = 0; at < PILLAR_RATES; at++) {
+        prices[at]++;
+        SAME(PILLAR_REFUSED_PRICE, tariff_bill(prices, imports, &rest, &cents));
+        prices[at]--;
+    }
+    rest--;
+    for (at = 0; at < 2 * PILLAR_RATES; at++) {
+        imports[at]++;
+        SAME(PILLAR_REFUSED_IMPORT, tariff_bill(prices, imports, &rest, &cents));
+        imports[at]--;
+    }
+    ACCEPTED(tariff_bill(prices, imports, &rest, &cents));
+    EQUAL(UINT64_C(8589934595999), cents);
+    SAME(3199999, rest);
+}
+
 int main(void)
 {
     sizes();
@@ -1156,6 +1185,7 @@ int main(void)
     refusals();
     berths();
     energy();
+    tariff();
     if (differences != 0)
         printf("differences: %u\n", differences);
     return differences != 0;

@@ -1,7 +1,7 @@
 /*
- * Berths of three columns and the energy of two days through the C interface
- * (document 02, A10 and A11), then wrong input. It prints what tools/harbour
- * prints for the same texts of tools/examples, in its words.
+ * Berths of three columns, the energy of two days and four bills through the C
+ * interface (document 02, A10 to A12), then wrong input. It prints what
+ * tools/harbour prints for the same texts of tools/examples, in its words.
  *
  *   rt staticlib pillar
  *   gcc -std=c99 -Wall -Wextra -pedantic -Iinclude -o target/harbour_demo examples/c/harbour_demo.c target/staticlib/libpillar.a
@@ -88,6 +88,25 @@ static int days(void)
     return right;
 }
 
+/* ---- Tariff: harbour-bills.txt ------------------------------------------- */
+
+static const uint32_t prices[PILLAR_RATES] = {25, 31, 18, 40};
+static const uint64_t imports[2 * PILLAR_RATES] = {2000, 0, 500, 3599, 0, 0, 12345, 1};
+
+static int bills(void)
+{
+    uint32_t rest = 0;
+    uint64_t cents, sum = 0;
+    for (unsigned place = 1; place <= 4; place++) {
+        if (tariff_bill(prices, imports, &rest, &cents) != PILLAR_ACCEPTED)
+            return 0;
+        printf("bill %u: %" PRIu64 " cents, rest %" PRIu32 "\n", place, cents, rest);
+        sum += cents;
+    }
+    printf("sum: %" PRIu64 " cents, rest %" PRIu32 "\n", sum, rest);
+    return 1;
+}
+
 /* ---- Wrong input --------------------------------------------------------- */
 
 /* Whether a refusal came with this number and left what was lent. */
@@ -133,11 +152,29 @@ static int wrong_energy(void)
     return right;
 }
 
+static int wrong_bills(void)
+{
+    const uint32_t high[PILLAR_RATES] = {0, 0, 0, PILLAR_HIGHEST_PRICE + 1};
+    const uint64_t much[2 * PILLAR_RATES] = {0, 0, 0, 0, 0, 0, PILLAR_MOST_BILLED + 1, 0};
+    uint32_t rest = PILLAR_KILOWATT_HOUR;
+    uint64_t cents = 77;
+    uint32_t answer = tariff_bill(high, much, &rest, &cents);
+    int right = refused("a price above 1000000", answer, PILLAR_REFUSED_PRICE, cents == 77 && rest == PILLAR_KILOWATT_HOUR);
+    answer = tariff_bill(prices, much, &rest, &cents);
+    right &= refused("a rest of 3600000", answer, PILLAR_REFUSED_REST, cents == 77 && rest == PILLAR_KILOWATT_HOUR);
+    rest = 5;
+    answer = tariff_bill(prices, much, &rest, &cents);
+    right &= refused("watt-hours above 2^31", answer, PILLAR_REFUSED_IMPORT, cents == 77 && rest == 5);
+    return right;
+}
+
 int main(void)
 {
     int right = columns();
     right &= days();
+    right &= bills();
     right &= wrong_berths();
     right &= wrong_energy();
+    right &= wrong_bills();
     return right ? 0 : 1;
 }

@@ -1,7 +1,7 @@
 //! The jobs that are measured.
 
 use crate::side::Side;
-use pillar::harbour::{Berth, Day, Energy};
+use pillar::harbour::{Berth, Day, Energy, RATES};
 
 /// How often a short job is done within one timing.
 const TIMES: u32 = 2_000;
@@ -21,6 +21,7 @@ pub struct Item {
 enum Job {
     Day(Vec<i32>),
     Join(Day),
+    Bill([u32; RATES], [Energy; RATES]),
     Allot(i32, Vec<Berth>),
 }
 
@@ -30,6 +31,7 @@ impl Item {
         digest(&match &self.job {
             Job::Day(samples) => side.energy_of_day(samples, rounds),
             Job::Join(day) => side.join(day, rounds),
+            Job::Bill(prices, imports) => side.bill(prices, imports, rounds),
             Job::Allot(limit, berths) => side.allot(*limit, berths, rounds),
         })
     }
@@ -53,10 +55,24 @@ pub fn items() -> Vec<Item> {
         import: energy(12_345, 2_607),
         export: energy(678, 3_599),
     };
+    let prices = [25, 31, 18, 40];
+    let small = [
+        energy(2_000, 0),
+        energy(500, 3_599),
+        energy(0, 0),
+        energy(12_345, 1),
+    ];
+    let great = [energy(1 << 31, 3_599); RATES];
     vec![
         item("energy of a day, import", 1, Job::Day(import)),
         item("energy of a day, both directions", 1, Job::Day(both)),
         item("join", TIMES, Job::Join(joined)),
+        item("bill", TIMES, Job::Bill(prices, small)),
+        item(
+            "bill, the highest",
+            TIMES,
+            Job::Bill([1_000_000; RATES], great),
+        ),
         item("allotment, 1 berth", TIMES, Job::Allot(20_000, berths(1))),
         item(
             "allotment, 16 berths",

@@ -1,6 +1,6 @@
-//! Measures the proved core and plain on berths and energy (02, A10 and A11) and
-//! prints what each costs, with the ratio: the shortest time of many, or exact
-//! instructions. Table and counting are those of `speed`.
+//! Measures the proved core and plain on berths, energy and tariff (02, A10 to
+//! A12) and prints what each costs, with the ratio: the shortest time of many, or
+//! exact instructions. Table and counting are those of `speed`.
 
 #[path = "../../speed/src/instructions.rs"]
 mod instructions;

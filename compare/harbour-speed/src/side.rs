@@ -1,7 +1,7 @@
 //! What is measured: each function of the proved core beside plain's.
 
-use pillar::harbour::{self, Berth, Day, Energy};
-use plain::{berths, energy};
+use pillar::harbour::{self, Berth, Day, Energy, RATES};
+use plain::{berths, energy, tariff};
 use std::hint::black_box;
 
 /// The proved core first, then plain.
@@ -18,6 +18,9 @@ pub trait Side: Sync {
 
     /// Joins the day to nothing, and then to what came of it.
     fn join(&self, day: &Day, rounds: u32) -> Vec<u64>;
+
+    /// Bills the imports, each time with the rest of the time before.
+    fn bill(&self, prices: &[u32; RATES], imports: &[Energy; RATES], rounds: u32) -> Vec<u64>;
 
     /// Allots to the berths, the limit counting the rounds down.
     fn allot(&self, limit: i32, berths: &[Berth], rounds: u32) -> Vec<u64>;
@@ -48,6 +51,21 @@ impl Side for Proved {
             accept(harbour::join(black_box(&mut joined), black_box(day)));
         }
         numbers(&joined)
+    }
+
+    fn bill(&self, prices: &[u32; RATES], imports: &[Energy; RATES], rounds: u32) -> Vec<u64> {
+        let (mut rest, mut cents, mut sum) = (0, 0, 0);
+        for _ in 0..rounds {
+            let imports = black_box(imports);
+            accept(harbour::bill(
+                black_box(prices),
+                imports,
+                &mut rest,
+                &mut cents,
+            ));
+            sum += cents;
+        }
+        vec![sum, rest.into()]
     }
 
     fn allot(&self, limit: i32, berths: &[Berth], rounds: u32) -> Vec<u64> {
@@ -86,6 +104,17 @@ impl Side for Plain {
             joined = accepted(black_box(joined).joined(*black_box(&day)));
         }
         plain_numbers(&joined)
+    }
+
+    fn bill(&self, prices: &[u32; RATES], imports: &[Energy; RATES], rounds: u32) -> Vec<u64> {
+        let imports = imports.map(plain_energy);
+        let (mut rest, mut sum) = (0, 0);
+        for _ in 0..rounds {
+            let bill = accepted(tariff::bill(black_box(prices), black_box(&imports), rest));
+            rest = bill.rest;
+            sum += bill.cents;
+        }
+        vec![sum, rest.into()]
     }
 
     fn allot(&self, limit: i32, berths: &[Berth], rounds: u32) -> Vec<u64> {

@@ -1,5 +1,5 @@
-//! Compares plain with the proved core on a column's berths, the energy of a day
-//! and joins (02, A10 and A11), and tries their laws.
+//! Compares plain with the proved core on a column's berths, the energy of a day,
+//! joins and bills (02, A10 to A12), and tries their laws.
 
 mod berths;
 mod energy;
@@ -8,6 +8,7 @@ mod planted;
 mod random;
 mod run;
 mod sides;
+mod tariff;
 
 use options::{Options, USAGE};
 use planted::PLANTED;
@@ -42,6 +43,7 @@ fn main() -> ExitCode {
         compared::<berths::Berths>(&plan),
         compared::<energy::Samples>(&plan),
         compared::<energy::Joins>(&plan),
+        compared::<tariff::Bills>(&plan),
     ];
     if right.iter().all(|right| *right) {
         ExitCode::SUCCESS

@@ -3,7 +3,8 @@
 use crate::berths::Berths;
 use crate::energy::{Joins, Samples};
 use crate::run::{Counts, Found, Plan, run};
-use plain::{berths, energy};
+use crate::tariff::Bills;
+use plain::{berths, energy, tariff};
 
 type Run = fn(&Plan) -> Result<Counts, Found>;
 
@@ -48,4 +49,20 @@ pub const PLANTED: &[(&str, Run)] = planted![
     Joins energy::MOST_JOINED_REFUSED: "refuses 2^53 joined watt-hours",
     Joins energy::JOINED_BEFORE_REMAINDER: "answers 27 before 26",
     Joins energy::HOURS_WRAP: "lets joined watt-hours wrap at 64 bits",
+    Bills tariff::REST_NOT_CARRIED: "does not carry the rest",
+    Bills tariff::REST_BEFORE_PRICE: "answers 29 before 28",
+    Bills tariff::IMPORT_BEFORE_REST: "answers 30 before 29",
+    Bills tariff::LAST_RATE_LEFT_OUT: "leaves the last rate out",
+    Bills tariff::LAST_RATE_UNJUDGED: "does not judge the last rate",
+    Bills tariff::RATES_EXCHANGED: "exchanges two prices",
+    Bills tariff::SUM_WRAPS: "lets the sum wrap at 64 bits",
+    Bills tariff::ROUNDS: "rounds to the nearest cent",
+    Bills tariff::WHOLE_CENTS_BY_RATE: "cuts each rate to whole cents",
+    Bills tariff::REMAINDERS_LEFT_OUT: "leaves the watt-seconds out",
+    Bills tariff::HIGHEST_PRICE_REFUSED: "refuses a price of 1,000,000",
+    Bills tariff::HIGHER_PRICE_TAKEN: "takes a price of 1,000,001",
+    Bills tariff::WHOLE_REST_TAKEN: "takes a rest of 3,600,000",
+    Bills tariff::MOST_BILLED_REFUSED: "refuses 2^31 watt-hours",
+    Bills tariff::MORE_BILLED: "takes 2^31 + 1 watt-hours",
+    Bills tariff::REMAINDER_3600_TAKEN: "bills a remainder of 3,600",
 ];

@@ -1,7 +1,7 @@
 //! The two sides: the proved core, and plain with a planted blunder or none.
 
-use pillar::harbour::{self, Berth, Day, Energy};
-use plain::{berths, energy};
+use pillar::harbour::{self, Berth, Day, Energy, RATES};
+use plain::{berths, energy, tariff};
 
 /// The functions, as the C interface has them: the answer is 0 or the number
 /// of a refusal, and what is lent holds what was made.
@@ -9,13 +9,19 @@ pub trait Side {
     fn allot(limit: i32, berths: &mut [Berth]) -> u32;
     fn energy_of_day(samples: &[i32], day: &mut Day) -> u32;
     fn join(day: &mut Day, other: &Day) -> u32;
+    fn bill(
+        prices: &[u32; RATES],
+        imports: &[Energy; RATES],
+        rest: &mut u32,
+        cents: &mut u64,
+    ) -> u32;
 }
 
 /// The archive.
 pub struct Proved;
 
-/// `FAULT` is one of `plain::berths::fault` or `plain::energy::fault`, whose
-/// numbers differ, or 0 for none.
+/// `FAULT` is one of `plain::berths::fault`, `plain::energy::fault` or
+/// `plain::tariff::fault`, whose numbers differ, or 0 for none.
 pub struct Plain<const FAULT: u8>;
 
 impl Side for Proved {
@@ -29,6 +35,15 @@ impl Side for Proved {
 
     fn join(day: &mut Day, other: &Day) -> u32 {
         pillar_number(harbour::join(day, other))
+    }
+
+    fn bill(
+        prices: &[u32; RATES],
+        imports: &[Energy; RATES],
+        rest: &mut u32,
+        cents: &mut u64,
+    ) -> u32 {
+        pillar_number(harbour::bill(prices, imports, rest, cents))
     }
 }
 
@@ -54,6 +69,19 @@ impl<const FAULT: u8> Side for Plain<FAULT> {
     fn join(day: &mut Day, other: &Day) -> u32 {
         let joined = plain_day(day).joined_with::<FAULT>(plain_day(other));
         stored(joined, day)
+    }
+
+    fn bill(
+        prices: &[u32; RATES],
+        imports: &[Energy; RATES],
+        rest: &mut u32,
+        cents: &mut u64,
+    ) -> u32 {
+        let bill = tariff::bill_with::<FAULT>(prices, &imports.map(plain_energy), *rest);
+        if let Ok(bill) = bill {
+            (*rest, *cents) = (bill.rest, bill.cents);
+        }
+        plain_number(bill)
     }
 }
 

@@ -28,9 +28,10 @@ pub mod refusal;
 mod request;
 mod table;
 
-// Requests A10 and A11, which stand apart from the meter.
+// Requests A10, A11 and A12, which stand apart from the meter.
 pub mod berths;
 pub mod energy;
+pub mod tariff;
 
 pub use emergency::{
     ACTIVE, EmergencyProfile, GROUPS, Groups, LONGEST_EMERGENCY, NO_PROFILE, WAITING,

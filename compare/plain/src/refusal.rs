@@ -1,6 +1,7 @@
 //! The refusals by number: 1 to 13 are those of document 01's "Where a call
 //! stops", 14 to 16 those of request A3, 17 to 19 those of request A8, 20 and 21
-//! those of request A9; 100 to 102 are the C interface's (`pillar.h`), which numbers
+//! those of request A9 (22 to 30, of A10 to A12, stand with their functions);
+//! 100 to 102 are the C interface's (`pillar.h`), which numbers
 //! the faults of a list.
 
 /// "mode above 6" (fresh, call 6)
@@ -67,3 +68,9 @@ pub const SAMPLE_COUNT: u8 = 25;
 pub const REMAINDER: u8 = 26;
 /// "a join whose whole watt-hours are above 2^53" (02, A11)
 pub const JOINED_ENERGY: u8 = 27;
+/// "price above 1,000,000" (02, A12)
+pub const PRICE: u8 = 28;
+/// "incoming rest of 3,600,000 or more" (02, A12)
+pub const REST: u8 = 29;
+/// "whole watt-hours above 2^31 at a rate or a remainder of 3,600 or more" (02, A12)
+pub const IMPORT: u8 = 30;

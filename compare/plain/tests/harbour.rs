@@ -1,7 +1,8 @@
-//! Berths and energy (02, A10 and A11) on numbers worked out by hand.
+//! Berths, energy and tariff (02, A10 to A12) on numbers worked out by hand.
 
 use plain::berths::{Berth, allot};
 use plain::energy::{Day, Energy};
+use plain::tariff::{Bill, bill};
 
 // ---- Berths ---------------------------------------------------------------
 
@@ -231,4 +232,109 @@ fn joins_are_refused_in_order() {
     assert_eq!(import_above.joined(Day::default()), Err(26));
     let export_above = day((0, 3600), (MOST + 1, 0));
     assert_eq!(Day::default().joined(export_above), Err(26));
+}
+
+// ---- Tariff ---------------------------------------------------------------
+
+const PRICES: [u32; 4] = [25, 31, 18, 40];
+
+/// At [`PRICES`] 180,000,000 and 55,911,569 and 1,777,680,040 over 3,600,000.
+fn imports() -> [Energy; 4] {
+    [
+        energy(2000, 0),
+        energy(500, 3599),
+        energy(0, 0),
+        energy(12345, 1),
+    ]
+}
+
+/// 2,013,591,609 over 3,600,000 each time.
+#[test]
+fn the_rest_is_carried_to_the_next_bill() {
+    let bills = [
+        (559, 1_191_609),
+        (559, 2_383_218),
+        (559, 3_574_827),
+        (560, 1_166_436),
+    ];
+    let mut rest = 0;
+    for (cents, next) in bills {
+        assert_eq!(
+            bill(&PRICES, &imports(), rest),
+            Ok(Bill { cents, rest: next })
+        );
+        rest = next;
+    }
+}
+
+/// A kilowatt-hour at each rate by itself costs that rate's price.
+#[test]
+fn each_rate_has_its_price() {
+    for rate in 0..4 {
+        let mut imports = [energy(0, 0); 4];
+        imports[rate] = energy(1000, 0);
+        let cents = u64::from(PRICES[rate]);
+        assert_eq!(bill(&PRICES, &imports, 17), Ok(Bill { cents, rest: 17 }));
+    }
+}
+
+/// 30,923,764,545,599,599,999 over 3,600,000, more than 64 bits hold.
+#[test]
+fn the_highest_bill_is_exact() {
+    let most = energy(2_147_483_648, 3599);
+    let cents = 8_589_934_595_999;
+    let rest = 3_199_999;
+    assert_eq!(
+        bill(&[1_000_000; 4], &[most; 4], 3_599_999),
+        Ok(Bill { cents, rest })
+    );
+}
+
+#[test]
+fn each_price_is_judged() {
+    for rate in 0..4 {
+        let mut prices = PRICES;
+        prices[rate] = 1_000_000;
+        assert!(bill(&prices, &imports(), 0).is_ok());
+        for price in [1_000_001, u32::MAX] {
+            prices[rate] = price;
+            assert_eq!(bill(&prices, &imports(), 0), Err(28));
+        }
+    }
+}
+
+#[test]
+fn the_rest_is_judged() {
+    let nothing = [energy(0, 0); 4];
+    let kept = Bill {
+        cents: 0,
+        rest: 3_599_999,
+    };
+    assert_eq!(bill(&PRICES, &nothing, 3_599_999), Ok(kept));
+    assert_eq!(bill(&PRICES, &nothing, 3_600_000), Err(29));
+    assert_eq!(bill(&PRICES, &nothing, u32::MAX), Err(29));
+}
+
+#[test]
+fn each_import_is_judged() {
+    for rate in 0..4 {
+        let with = |watt_hours, watt_seconds| {
+            let mut imports = imports();
+            imports[rate] = energy(watt_hours, watt_seconds);
+            bill(&PRICES, &imports, 0).err()
+        };
+        assert_eq!(with(2_147_483_648, 3599), None);
+        assert_eq!(with(2_147_483_649, 0), Some(30));
+        assert_eq!(with(u64::MAX, 0), Some(30));
+        assert_eq!(with(0, 3600), Some(30));
+        assert_eq!(with(0, u64::MAX), Some(30));
+    }
+}
+
+#[test]
+fn bills_are_refused_in_order() {
+    let wrong = [energy(0, 3600); 4];
+    assert_eq!(bill(&[1_000_001; 4], &wrong, 3_600_000), Err(28));
+    assert_eq!(bill(&PRICES, &wrong, 3_600_000), Err(29));
+    assert_eq!(bill(&PRICES, &wrong, 0), Err(30));
 }

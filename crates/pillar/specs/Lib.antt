@@ -3,3 +3,4 @@ pub mod Laws
 pub mod Request
 pub mod RequestLaws
 pub mod Energy
+pub mod Tariff

@@ -3,7 +3,7 @@
 // of a refusal, and a refusal leaves every byte of the page. An event table goes as bytes with each
 // call on a page: those of a good table, or any others, as none at all, for the built-in one.
 // `include/pillar.h` declares them.
-// Apart from the meter stand the functions of a column and of the energy of a day.
+// Apart from the meter stand the functions of a column, of the energy of a day and of a bill.
 ghost use mathlib.Core.Path.{_≡_};
 ghost use Rattle.events.specs.Table.{builtIn};
 ghost use Rattle.tables.specs.Bytes.{tableRefusal, tableOf};
@@ -14,6 +14,7 @@ ghost use Rattle.replay.specs.Replay.{replayAnswer, replayed};
 ghost use Rattle.pillar.specs.Interface.{keptNumber, keptPage, freshNumber, freshPage, Called, replayNumber, checkNumber};
 ghost use Rattle.pillar.specs.Laws.{Laws};
 
+mod bill;
 mod column;
 mod day;
 mod request;

@@ -1,7 +1,7 @@
-//! Berths of three columns and the energy of two days: prints what `tools/harbour`
-//! prints for the same texts of `tools/examples`, in its words.
+//! Berths of three columns, the energy of two days, and four bills: prints what
+//! `tools/harbour` prints for the same texts of `tools/examples`, in its words.
 
-use pillar::harbour::{self, Berth, Day};
+use pillar::harbour::{self, Berth, Day, Energy, RATES};
 
 /// Limit, then guarantee, cap and demand of each berth: harbour-berths.txt.
 const COLUMNS: [(i32, &[[i32; 3]]); 3] = [
@@ -25,11 +25,29 @@ const DAYS: [&[(i32, usize)]; 2] = [
     &[(2000, 1800), (993, 1), (-100, 1)],
 ];
 
+/// In cents per kilowatt-hour: harbour-bills.txt, which has the same bill four times.
+const PRICES: [u32; RATES] = [25, 31, 18, 40];
+const IMPORTS: [Energy; RATES] = [
+    energy(2000, 0),
+    energy(500, 3599),
+    energy(0, 0),
+    energy(12345, 1),
+];
+const BILLS: usize = 4;
+
+const fn energy(watt_hours: u64, watt_seconds: u64) -> Energy {
+    Energy {
+        watt_hours,
+        watt_seconds,
+    }
+}
+
 fn main() {
     for (place, (limit, given)) in (1..).zip(COLUMNS) {
         column(place, limit, given);
     }
     days();
+    bills();
 }
 
 fn column(place: usize, limit: i32, given: &[[i32; 3]]) {
@@ -77,4 +95,16 @@ fn shown(day: &Day) -> String {
         "import {} Wh {} Ws, export {} Wh {} Ws",
         import.watt_hours, import.watt_seconds, export.watt_hours, export.watt_seconds
     )
+}
+
+fn bills() {
+    let mut rest = 0;
+    let mut sum = 0;
+    for place in 1..=BILLS {
+        let mut cents = 0;
+        harbour::bill(&PRICES, &IMPORTS, &mut rest, &mut cents).expect("the bill is accepted");
+        sum += cents;
+        println!("bill {place}: {cents} cents, rest {rest}");
+    }
+    println!("sum: {sum} cents, rest {rest}");
 }

@@ -1,6 +1,6 @@
 //! Safe functions for the harbour's office: a column's berths, the energy of a
-//! day (document 02, A10 and A11). They stand apart from the meter. What is lent
-//! stays as it was where a function refuses.
+//! day, the tariff (document 02, A10 to A12). They stand apart from the meter.
+//! What is lent stays as it was where a function refuses.
 
 use crate::{Answer, answer};
 
@@ -13,6 +13,9 @@ mod stand_in;
 use linked as core;
 #[cfg(feature = "stand-in")]
 use stand_in as core;
+
+/// The rates of a tariff, `PILLAR_RATES`.
+pub const RATES: usize = 4;
 
 /// A berth of a column, `struct column_berth`: in watts.
 #[repr(C)]
@@ -56,6 +59,18 @@ pub fn join(day: &mut Day, other: &Day) -> Answer {
     answer(core::join(day, other))
 }
 
+/// The whole cents that an import at each rate costs, at prices in cents per
+/// kilowatt-hour: 28, 29 or 30. `rest` is that of the bill before, over
+/// 3,600,000, and then the one for the next bill.
+pub fn bill(
+    prices: &[u32; RATES],
+    imports: &[Energy; RATES],
+    rest: &mut u32,
+    cents: &mut u64,
+) -> Answer {
+    answer(core::bill(prices, imports, rest, cents))
+}
+
 #[cfg(test)]
 mod tests {
     use super::*;
@@ -74,6 +89,7 @@ mod tests {
         assert_eq!(offset_of!(Day, import.watt_seconds), 8);
         assert_eq!(offset_of!(Day, export.watt_hours), 16);
         assert_eq!(offset_of!(Day, export.watt_seconds), 24);
+        assert_eq!(size_of::<[Energy; RATES]>(), 64);
     }
 
     /// A refusal hands its number on and leaves what was lent.
@@ -96,5 +112,10 @@ mod tests {
         assert_eq!(energy_of_day(&[1; 86_401], &mut day), Err(25));
         assert_eq!(join(&mut day, &Day::default()), Err(26));
         assert_eq!(day, before);
+
+        let (mut rest, mut cents) = (3_600_000, 77);
+        let imports = [Energy::default(); RATES];
+        let answer = bill(&[0; RATES], &imports, &mut rest, &mut cents);
+        assert_eq!((answer, rest, cents), (Err(29), 3_600_000, 77));
     }
 }

@@ -1,6 +1,6 @@
 //! The proved core's functions, linked as `libpillar.a`.
 
-use super::{Berth, Day};
+use super::{Berth, Day, Energy, RATES};
 
 mod c {
     use super::super::Berth;
@@ -11,6 +11,13 @@ mod c {
         pub fn energy_of_day(samples: *const i32, count: usize, day: *mut u64) -> u32;
 
         pub fn energy_join(day: *mut u64, other: *const u64) -> u32;
+
+        pub fn tariff_bill(
+            prices: *const u32,
+            imports: *const u64,
+            rest: *mut u32,
+            cents: *mut u64,
+        ) -> u32;
     }
 }
 
@@ -34,4 +41,15 @@ pub fn join(day: &mut Day, other: &Day) -> u32 {
     // SAFETY: both are live and laid out as four numbers; the first is exclusive,
     // so the two don't overlap.
     unsafe { c::energy_join(day, other) }
+}
+
+pub fn bill(
+    prices: &[u32; RATES],
+    imports: &[Energy; RATES],
+    rest: &mut u32,
+    cents: &mut u64,
+) -> u32 {
+    // SAFETY: the prices are four numbers, the imports are laid out as eight; rest
+    // and cents are live, exclusive numbers of their own.
+    unsafe { c::tariff_bill(prices.as_ptr(), imports.as_ptr().cast(), rest, cents) }
 }

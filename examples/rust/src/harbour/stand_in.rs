@@ -1,8 +1,8 @@
 //! Plain behind the proved core's functions, so that the programs can run
 //! where `libpillar.a` isn't built. It proves nothing about the core.
 
-use super::{Berth, Day, Energy};
-use plain::{berths, energy};
+use super::{Berth, Day, Energy, RATES};
+use plain::{berths, energy, tariff};
 
 pub fn allot(limit: i32, berths: &mut [Berth]) -> u32 {
     let mut given: Vec<_> = berths.iter().map(plain_berth).collect();
@@ -19,6 +19,19 @@ pub fn energy_of_day(samples: &[i32], day: &mut Day) -> u32 {
 
 pub fn join(day: &mut Day, other: &Day) -> u32 {
     store(plain_day(day).joined(plain_day(other)), day)
+}
+
+pub fn bill(
+    prices: &[u32; RATES],
+    imports: &[Energy; RATES],
+    rest: &mut u32,
+    cents: &mut u64,
+) -> u32 {
+    let bill = tariff::bill(prices, &imports.map(plain_energy), *rest);
+    if let Ok(bill) = bill {
+        (*rest, *cents) = (bill.rest, bill.cents);
+    }
+    number(bill)
 }
 
 fn plain_berth(berth: &Berth) -> berths::Berth {

@@ -1,0 +1,4 @@
+pub mod Charges
+pub mod Bills
+pub mod Laws
+pub mod NearMisses
