@@ -48,7 +48,7 @@ module _ (r : Command) where
   some-kind kind e = false≢true (sym (rw e at read) ∙ kind)
 
 -- two's complement gives every signed number of 32 bits back
-signed-back : (z : ℤ) → Signed z → signedOf (bitsOf z) ≡ z
+pub signed-back : (z : ℤ) → Signed z → signedOf (bitsOf z) ≡ z
 signed-back (pos n) h = rw (lt-ltb n 2147483648 (omega (arith, leb-true n 2147483647 (h .1))))
 signed-back (negsuc n) h =
     let most = leb-true n 2147483647 (h .0) in

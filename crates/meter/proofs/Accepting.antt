@@ -1,28 +1,18 @@
 -- What fresh accepts and refuses.
 use native.Mathlib.Omega.{arith}
 use mathlib.Core.Path.{_≡_, refl}
-use mathlib.Core.Bool.{Bool, true, false, _&&_, cond}
-use lib.Dec.{leb}
+use mathlib.Core.Bool.{true}
+use mathlib.Core.List.{[], _∷_}
 use lib.IntN.{pos}
 use lib.Signed.{leZ}
 use Prim.Native.Nat.{ℕ}
-use Rattle.base.proofs.Bools.{and-left, and-right}
-use Rattle.limiter.specs.Limiter.{isDuration}
+use Rattle.base.proofs.Bools.{and-left}
 use Rattle.calls.specs.declared.Answer.the-variants.{Accepted, Refused}
 use Rattle.history.specs.OnePhase.{Fresh}
+use Rattle.status.proofs.Records.{settings-passed}
 use Rattle.meter.specs.State.{recordOf}
 use Rattle.meter.specs.Fresh.{freshState, leastSettings, freshOf, FreshLaws}
 use Rattle.meter.specs.Settings.{freshAnswer, Settings, SettingsInRange}
-
-never : {n : ℕ} → Refused n ≡ Accepted → ⊥
-never a = let z : _≡_ {A = ℕ} 0 1 = cc in omega arith
-
--- what is accepted has passed three tests
-passed : (a b c : Bool) → cond a (cond b (cond c Accepted (Refused 5)) (Refused 4)) (Refused 1) ≡ Accepted → (a ≡ true) × ((b ≡ true) × (c ≡ true))
-passed true true true h = (refl, (refl, refl))
-passed true true false h = absurd (never h)
-passed true false c h = absurd (never h)
-passed false b c h = absurd (never h)
 
 module _ (f : Fresh) where
   settings-accepted : Settings f → freshOf f .answer ≡ Accepted
@@ -32,12 +22,12 @@ module _ (f : Fresh) where
   accepted-settings : SettingsInRange f → freshOf f .answer ≡ Accepted → Settings f
   unfolding freshAnswer
   accepted-settings h a =
-      let tests = passed (leb (f .mode) 6) (leZ (pos 0) (f .threshold) && true) (isDuration (f .over) && isDuration (f .under)) a in
+      let tests = settings-passed (f .mode) (f .threshold ∷ []) (f .over) (f .under) a in
       record {
         mode = tests .0;
         threshold = rw (and-left (leZ (pos 0) (f .threshold)) true (tests .1 .0)) (h .threshold .1);
-        over = and-left (isDuration (f .over)) (isDuration (f .under)) (tests .1 .1);
-        under = and-right (isDuration (f .over)) (isDuration (f .under)) (tests .1 .1);
+        over = tests .1 .1 .0;
+        under = tests .1 .1 .1;
         clock = h .clock;
       }
 

@@ -1,19 +1,14 @@
 -- A call on a record: its answer, by the account's rule of refusals; on a refusal the record that came in; and a sound record stays sound.
 use mathlib.Core.Path.{_≡_, _∙_, refl, ap, sym}
 use mathlib.Core.Bool.{true}
-use mathlib.Core.List.{List, [], _++_}
+use mathlib.Core.List.{List}
 use Prim.Native.Nat.{ℕ}
 use native.Mathlib.Omega.{arith}
 use lib.ListN.{length}
 use Rattle.base.specs.Tests.{every}
 use Rattle.base.proofs.Bools.{and-right}
 use Rattle.events.specs.Table.{EventRow, lawful}
-use Rattle.events.proofs.Newest.{newest-short}
-use Rattle.logs.specs.declared.Logs.{Logs}
-use Rattle.logs.specs.Lists.{appended, emptied}
-use Rattle.logs.specs.Layout.{Sized, laid, listsOf, soundLogs}
-use Rattle.logs.proofs.Read.{read-short, read-three}
-use Rattle.logs.proofs.Kept.{length-changed, changed-short}
+use Rattle.logs.specs.Layout.{Sized, soundLogs}
 use Rattle.calls.specs.declared.Call.{Call}
 use Rattle.emergency.specs.Emergency.{groupsIn}
 use Rattle.calls.specs.Calls.{InRange, callOf}
@@ -25,13 +20,14 @@ use Rattle.calls.specs.declared.Parsed.the-variants.{Ok, NoKind}
 use Rattle.history.specs.OnePhase.{asCall}
 use Rattle.history.specs.Effects.{Reading, refused, accepted, reading}
 use Rattle.machine.specs.Sound.{soundState}
-use Rattle.machine.specs.Machine.{Change, Result, refusing, making, stateAfter, result}
+use Rattle.machine.specs.Machine.{Result, refusing, making, stateAfter, result}
 use Rattle.machine.specs.Laws.{afterResult, letterIn}
 use Rattle.machine.proofs.Answers.{either, by-reading}
 use Rattle.machine.proofs.Preserved.{kept-sound}
 use Rattle.machine.proofs.Number.{number-kept}
 use Rattle.machine.specs.Values.{State}
 use Rattle.machine.proofs.Effects.{readResult}
+use Rattle.status.proofs.Arrays.{after-sized}
 use Rattle.steps.specs.Scalars.{soundScalars, valuesOf}
 use Rattle.steps.specs.Step.{resultOf}
 use Rattle.meter.specs.declared.Meter.{Meter}
@@ -39,9 +35,9 @@ use Rattle.meter.specs.declared.Outcome.{Outcome}
 use Rattle.meter.specs.State.{stateOf, scalarsOf, recordOf}
 use Rattle.meter.specs.Sound.{soundMeter}
 use Rattle.meter.specs.Machine.{carriedOut, applied, performed, commanded}
-use Rattle.meter.proofs.Values.{laid-sized, state-sound, record-sound, state-of-record}
+use Rattle.meter.proofs.Values.{state-sound, record-sound, state-of-record}
 use Rattle.meter.proofs.Ranges.{call-range}
-use Rattle.meter.specs.Laws.{answerOf}
+use Rattle.status.specs.Answers.{answerOf}
 
 -- each number under its condition only
 read-answer : (m : Meter) (x : Reading) → carriedOut m (readResult (valuesOf (scalarsOf m)) x) .answer ≡ answerOf x
@@ -121,14 +117,6 @@ module _ (rows : List EventRow) (all : every lawful rows ≡ true) (m : Meter) (
       go (making r) one k = record-sound rows (stateAfter (stateOf m) r) one k
 
 -- ---- whatever a call is, the arrays keep their types' lengths
-after-sized : (rows : List EventRow) (g : Logs) (r : Change) → Sized g → soundLogs rows g ≡ true
-    → Sized (laid (appended (r .log) (r .lines) (emptied (r .cleared) (listsOf g))))
-after-sized rows g r z e =
-    let empty = emptied (r .cleared) (listsOf g) in
-    let short = changed-short (r .cleared) (λ xs. []) (listsOf g) (λ xs. omega arith) (read-short rows g z e) in
-    laid-sized _ (length-changed (r .log) _ empty ∙ length-changed (r .cleared) _ (listsOf g) ∙ read-three rows g z e)
-    (changed-short (r .log) _ empty (λ xs. newest-short (xs ++ r .lines)) short)
-
 pub applied-sized : (rows : List EventRow) (m : Meter) (c : Call) → Sized (m .logs) → Sized (applied rows m c .meter .logs)
 unfolding applied soundMeter
 applied-sized rows m c z =

@@ -1,38 +1,32 @@
 -- The tail of a call: where the step's clears and lines are put into the arrays of a sound record, the record is the one that the machine gives.
 use Prim.Native.Nat.{ℕ, _≤_}
 use native.Mathlib.Omega.{arith}
-use mathlib.Core.Path.{_≡_, refl, ap, _∙_, sym}
+use mathlib.Core.Path.{_≡_, refl, _∙_}
 use mathlib.Core.Bool.{Bool, true, false, _&&_}
-use mathlib.Core.List.{List, [], map}
+use mathlib.Core.List.{List, []}
 use lib.IntN.{ℤ}
-use lib.ListN.{length, take, length-map, length-append}
-use lib.Seq.{take-at, length-take-le}
+use lib.ListN.{length, take}
 use Rattle.base.proofs.Bools.{and-right}
-use Rattle.events.specs.Line.{Line}
 use Rattle.events.specs.Table.{EventRow}
 use Rattle.logs.specs.declared.Logs.{Logs}
-use Rattle.logs.specs.Lists.{appended, emptied}
 use Rattle.logs.specs.Arrays.{soundArrays, extended, counted, zeroed, uncounted}
-use Rattle.logs.specs.Layout.{Sized, lineClock, lineCode, laid, listsOf, soundLogs, extendedArrays, zeroedArrays}
-use Rattle.logs.proofs.Read.{read-short, read-three, laid-lists}
-use Rattle.logs.proofs.Laid.{zeroed-laid, extended-laid}
-use Rattle.logs.proofs.Inverse.{lists-sound}
+use Rattle.logs.specs.Layout.{Sized, lineClock, lineCode, soundLogs, extendedArrays, zeroedArrays}
 use Rattle.logs.proofs.Same.{none-appended}
-use Rattle.logs.proofs.Kept.{emptied-sound, lists-short, lists-length}
 use Rattle.calls.specs.declared.Call.{Call}
 use Rattle.calls.specs.declared.Call.the-variants.{Sample}
-use Rattle.calls.specs.declared.Answer.the-variants.{Accepted, Refused}
+use Rattle.calls.specs.declared.Answer.the-variants.{Accepted}
 use Rattle.calls.specs.declared.Letter.the-variants.{None}
 use Rattle.calls.specs.declared.Command.{Command}
 use Rattle.calls.specs.declared.Parsed.{Parsed}
 use Rattle.calls.specs.declared.Parsed.the-variants.{Ok, NoKind}
 use Rattle.calls.specs.Calls.{callOf}
-use Rattle.machine.specs.Machine.{Change, Result, refusing, making, owing}
+use Rattle.machine.specs.Machine.{Result, refusing, making, owing}
 use Rattle.steps.specs.declared.Scalars.{Scalars}
 use Rattle.steps.specs.declared.Step.{Step}
 use Rattle.steps.specs.declared.QuietSample.{QuietSample}
 use Rattle.steps.specs.Scalars.{valuesOf, soundScalars}
-use Rattle.status.specs.Step.{inPlaces}
+use Rattle.status.proofs.Arrays.{arrays-after}
+use Rattle.status.proofs.Records.{lines-fit, lines-first}
 use Rattle.steps.specs.Step.{resultOf, stepFor, stepOf, quietSample}
 use Rattle.steps.proofs.Samples.{quiet-made}
 use Rattle.meter.specs.declared.Meter.{Meter}
@@ -40,15 +34,7 @@ use Rattle.meter.specs.declared.Outcome.{Outcome}
 use Rattle.meter.specs.State.{scalarsOf, withLogs}
 use Rattle.meter.specs.Sound.{soundMeter}
 use Rattle.meter.specs.Machine.{refusedWith, carriedOut, applied, performed, commanded}
-use Rattle.meter.specs.Parts.{outcomeOf, arraysAfter, leftIn, carriedOutInParts, performedInParts, commandedInParts}
-
--- ---- the lines of a step, as the code has them
-module _ (f : Line → ℕ) (xs : List Line) where
-  in-places : length xs ≤ length (inPlaces (map f xs))
-  in-places = simp (length-append, length-map) (omega arith)
-
-  first-lines : take (length xs) (inPlaces (map f xs)) ≡ map f xs
-  first-lines = take-at (map f xs) _ (length xs) (length-map xs f)
+use Rattle.meter.specs.Parts.{outcomeOf, leftIn, carriedOutInParts, performedInParts, commandedInParts}
 
 -- ---- the test of the record
 pub sound-is : (rows : List EventRow) (m : Meter) (a b : Bool) → a ≡ soundScalars (scalarsOf m)
@@ -59,19 +45,6 @@ sound-is rows m a b p q = rw (p, q)
 pub unsound-refused : (rows : List EventRow) (m : Meter) (c : Call) → soundMeter rows m ≡ false → refusedWith m 12 ≡ applied rows m c
 unfolding applied
 unsound-refused rows m c e = rw e
-
--- ---- the logs
-module _ (rows : List EventRow) (g : Logs) (z : Sized g) (e : soundLogs rows g ≡ true) (r : Change) where
-  logs-after : arraysAfter g r ≡ laid (appended (r .log) (r .lines) (emptied (r .cleared) (listsOf g)))
-  logs-after =
-      let lists = listsOf g in
-      let empty = emptied (r .cleared) lists in
-      let sound = emptied-sound rows lists (lists-sound rows g z e) (r .cleared) in
-      let cleared = zeroed-laid (r .cleared) lists (read-three rows g z e) (read-short rows g z e) in
-      let put = extendedArrays (r .log) (map lineClock (r .lines)) (map lineCode (r .lines)) in
-      ap (λ h. put (zeroedArrays (r .cleared) h)) (sym (laid-lists rows g z e))
-      ∙ ap put cleared
-      ∙ extended-laid (r .log) empty (lists-length rows empty sound) (lists-short rows empty sound) (r .lines)
 
 -- what a step leaves of a record, by the functions on the arrays
 abbrev leftBy : Meter → Step → Outcome
@@ -93,7 +66,7 @@ finished rows m c s g₀ g steps clears adds = rw (adds, clears, steps) (go (res
   where
     go : (r : Result) → leftBy m (stepOf (scalarsOf m) r) ≡ leftIn m r
     go (refusing n) = nothing-owed m n
-    go (making k) = rw (first-lines lineClock (k .lines), first-lines lineCode (k .lines))
+    go (making k) = rw (lines-first lineClock (k .lines) _, lines-first lineCode (k .lines) _)
 
 -- what a quiet sample leaves: its scalars, and the arrays as they are
 pub quiet-left : (rows : List EventRow) (m : Meter) (p : ℤ) (q : QuietSample) → q ≡ quietSample (scalarsOf m) p → q .quiet ≡ true
@@ -122,7 +95,7 @@ module _ (rows : List EventRow) (m : Meter) where
   laid-out : Sized (m .logs) → soundMeter rows m ≡ true → (r : Result) → leftIn m r ≡ carriedOut m r
   unfolding soundMeter
   laid-out z e (refusing n) = refl
-  laid-out z e (making k) = rw (logs-after rows (m .logs) z (and-right (soundScalars (scalarsOf m)) (soundLogs rows (m .logs)) e) k)
+  laid-out z e (making k) = rw (arrays-after rows (m .logs) z (and-right (soundScalars (scalarsOf m)) (soundLogs rows (m .logs)) e) k)
 
   pub sound-in-parts : (c : Call) → Sized (m .logs) → soundMeter rows m ≡ true → carriedOutInParts rows m c ≡ applied rows m c
   unfolding applied
@@ -147,10 +120,7 @@ module _ (rows : List EventRow) (m : Meter) where
   unfolding commandedInParts commanded
   command-in-parts c = performed-in-parts (callOf c)
 
--- ---- the parts of the two arrays, as long as the count says
+-- ---- the two arrays are as long as the count says, or longer
 pub lines-room : (s : Step) (t : Scalars) (r : Result) → s ≡ stepOf t r → (s .count ≤ length (s .clocks)) × (s .count ≤ length (s .codes))
 lines-room s t (refusing n) e = rw e (omega arith, omega arith)
-lines-room s t (making k) e = rw e (in-places lineClock (k .lines), in-places lineCode (k .lines))
-
-pub part-length : (n : ℕ) (xs : List ℕ) → n ≤ length xs → n ≡ length (take n xs)
-part-length n xs h = sym (length-take-le n xs h)
+lines-room s t (making k) e = rw e (lines-fit lineClock (k .lines) _, lines-fit lineCode (k .lines) _)

@@ -1,17 +1,15 @@
 -- Records and values: of what is sound, each is read off the other.
-use mathlib.Core.Path.{_≡_, refl, _∙_}
+use mathlib.Core.Path.{_≡_, refl}
 use mathlib.Core.Bool.{true, and-true}
-use mathlib.Core.List.{List, [], _∷_, map}
-use Prim.Native.Nat.{ℕ, _*_}
+use mathlib.Core.List.{List, [], _∷_}
 use native.Mathlib.Omega.{arith}
-use lib.ListN.{length, length-append, length-map}
+use lib.ListN.{length}
 use Rattle.base.proofs.Bools.{and-left, and-right}
-use Rattle.events.specs.Line.{Line}
 use Rattle.events.specs.Table.{EventRow}
 use Rattle.logs.specs.Lists.{soundLists}
-use Rattle.logs.specs.Layout.{Sized, lineClock, lineCode, flat, laid, soundLogs}
-use Rattle.logs.proofs.Places.{Short, none, more, length-padded}
-use Rattle.logs.proofs.Laid.{map-short}
+use Rattle.logs.specs.Layout.{Sized, laid, soundLogs}
+use Rattle.logs.proofs.Places.{Short}
+use Rattle.logs.proofs.Sized.{laid-sized}
 use Rattle.logs.proofs.Read.{laid-lists}
 use Rattle.logs.proofs.Inverse.{lists-laid, laid-sound, lists-sound}
 use Rattle.logs.proofs.Kept.{lists-length, lists-short}
@@ -25,30 +23,6 @@ use Rattle.steps.specs.Scalars.{valuesOf, firstLimiter, soundScalars}
 use Rattle.meter.specs.declared.Meter.{Meter}
 use Rattle.meter.specs.State.{stateOf, scalarsOf, recordOf}
 use Rattle.meter.specs.Sound.{soundMeter}
-
--- ---- the arrays that hold three logs have their types' lengths
-length-flat : {xss : List (List ℕ)} → Short xss → length (flat xss) ≡ 32 * length xss
-unfolding flat
-length-flat none = refl
-length-flat (more {xs} {xss} k s) =
-    let p = length-padded xs k in
-    let r = length-flat s in
-    rw length-append (omega arith)
-
-length-column : (f : Line → ℕ) (logs : List (List Line)) → length logs ≡ 3 → Short logs → length (flat (map (map f) logs)) ≡ 96
-length-column f logs t s =
-    let r = length-flat (map-short f s) in
-    let n = length-map logs (map f) in
-    omega arith
-
-pub laid-sized : (logs : List (List Line)) → length logs ≡ 3 → Short logs → Sized (laid logs)
-unfolding laid
-laid-sized logs t s =
-    record {
-      counts = length-map logs length ∙ t;
-      clocks = length-column lineClock logs t s;
-      codes = length-column lineCode logs t s;
-    }
 
 -- ---- the scalars are sound if their values are
 pub same-soundness : (s : Scalars) → soundValues (valuesOf s) ≡ soundScalars s

@@ -9,15 +9,15 @@ use Rattle.events.specs.Table.{EventRow, builtIn, lawful}
 use Rattle.logs.specs.Layout.{Sized}
 use Rattle.emergency.specs.Emergency.{groupsIn}
 use Rattle.calls.specs.declared.Call.{Call}
-use Rattle.calls.specs.declared.Answer.{Answer}
-use Rattle.calls.specs.declared.Answer.the-variants.{Accepted, Refused}
+use Rattle.calls.specs.declared.Answer.the-variants.{Refused}
 use Rattle.calls.specs.declared.Letter.the-variants.{None}
 use Rattle.calls.specs.declared.Command.{Command}
 use Rattle.calls.specs.Calls.{InRange, AllInRange}
-use Rattle.history.specs.Effects.{Reading, refused, accepted, reading}
+use Rattle.history.specs.Effects.{reading}
 use Rattle.history.specs.OnePhase.{Fresh, asCall, account, letter}
 use Rattle.machine.specs.Sound.{soundState}
 use Rattle.machine.specs.Values.{State}
+use Rattle.status.specs.Answers.{answerOf}
 use Rattle.meter.specs.declared.Meter.{Meter}
 use Rattle.meter.specs.State.{stateOf, recordOf}
 use Rattle.meter.specs.Sound.{soundMeter}
@@ -26,11 +26,6 @@ use Rattle.meter.specs.Parts.{carriedOutInParts, commandedInParts}
 use Rattle.meter.specs.Settings.{Settings}
 use Rattle.meter.specs.Fresh.{freshState}
 use Rattle.meter.specs.Holding.{holding}
-
--- the answer that the account's rule of refusals gives
-abbrev pub answerOf : Reading → Answer
-answerOf (refused n) = Refused n
-answerOf (accepted e) = Accepted
 
 -- of soundness, answers and refusals, and of whole lists of calls
 pub record LawsOf (rows : List EventRow) : Type 0 where

@@ -1,18 +1,16 @@
 -- The machine as the code does it, on a record in parts: the scalars by value, the arrays of the logs as they stand, of any length and any content.
 use Prim.Native.Nat.{ℕ}
-use mathlib.Core.List.{List, map}
-use denote.Ref.{RefT, now}
-use denote.Triple.Both.{Both}
+use mathlib.Core.List.{List}
+use denote.Ref.{now}
 use Rattle.events.specs.Table.{EventRow}
-use Rattle.logs.specs.declared.Logs.{Logs}
-use Rattle.logs.specs.Layout.{lineClock, lineCode, extendedArrays, zeroedArrays}
 use Rattle.calls.specs.declared.Call.{Call}
 use Rattle.calls.specs.declared.Answer.the-variants.{Accepted}
 use Rattle.calls.specs.declared.Command.{Command}
 use Rattle.calls.specs.declared.Parsed.{Parsed}
 use Rattle.calls.specs.declared.Parsed.the-variants.{Ok, NoKind}
 use Rattle.calls.specs.Calls.{callOf}
-use Rattle.machine.specs.Machine.{Change, Result, refusing, making}
+use Rattle.machine.specs.Machine.{Result, refusing, making}
+use Rattle.status.specs.Arrays.{Lent, arraysAfter}
 use Rattle.steps.specs.declared.Scalars.{Scalars}
 use Rattle.steps.specs.Scalars.{scalarsFrom}
 use Rattle.steps.specs.Step.{resultOf}
@@ -21,10 +19,6 @@ use Rattle.meter.specs.declared.Outcome.{Outcome}
 use Rattle.meter.specs.declared.parts.Answered.{Answered}
 use Rattle.meter.specs.State.{scalarsOf, withLogs}
 use Rattle.meter.specs.Machine.{refusedWith}
-
--- an array that is lent for writing: as it was at the call, and as it is left
-abbrev pub Lent : Type 0
-Lent = Both (RefT (List ℕ)) (RefT (List ℕ))
 
 -- the record of these scalars and the arrays as they were
 abbrev pub recordGiven : Scalars → Lent → Lent → Lent → Meter
@@ -38,11 +32,7 @@ outcomeOf a counts clocks codes = record { meter = withLogs (a .scalars) counts 
 abbrev pub handedBack : Answered → Lent → Lent → Lent → Outcome
 handedBack a counts clocks codes = outcomeOf a (now (counts .exit)) (now (clocks .exit)) (now (codes .exit))
 
--- the arrays of the logs after a change: the clear, then the lines
-abbrev pub arraysAfter : Logs → Change → Logs
-arraysAfter g k = extendedArrays (k .log) (map lineClock (k .lines)) (map lineCode (k .lines)) (zeroedArrays (k .cleared) g)
-
--- the record of a change's scalars and those arrays; refused, the record that came in
+-- the record of a change's scalars and the arrays after it; refused, the record that came in
 abbrev pub leftIn : Meter → Result → Outcome
 leftIn m (refusing n) = refusedWith m n
 leftIn m (making k) =

@@ -22,7 +22,7 @@ use Rattle.page.specs.Laws.{Typed}
 use Rattle.page.proofs.Lines.{length-lines}
 
 -- ---- what soundness bounds
-control-held : (c : Control) → soundControl c ≡ true → Word (c .openings) → controlArea .Holds c
+pub control-held : (c : Control) → soundControl c ≡ true → Word (c .openings) → controlArea .Holds c
 unfolding soundControl
 control-held c e openings =
     let ranges = and-left (leb (c .mode) 6 && leb (c .state) 2) _ e in
@@ -41,7 +41,7 @@ awaited-range : (l : Limiter) (b : Bool) → l .over ≤ 86400 → l .under ≤ 
 awaited-range l true o u = u
 awaited-range l false o u = o
 
-limiter-held : (l : Limiter) → soundLimiter l ≡ true → limiterArea .Holds l
+pub limiter-held : (l : Limiter) → soundLimiter l ≡ true → limiterArea .Holds l
 unfolding soundLimiter
 limiter-held l e =
     let settings = and-left (soundSettings l) (ltb (l .run) (awaited l)) e in
@@ -55,10 +55,10 @@ limiter-held l e =
     )
 
 -- ---- what the types bound
-register-held : (r : Register) → Word (r .bits) → Word (r .filter) → registerArea .Holds r
+pub register-held : (r : Register) → Word (r .bits) → Word (r .filter) → registerArea .Holds r
 register-held r bits filter = ((omega arith, omega arith), tt)
 
-alarms-held : (a : Alarms) → soundAlarms a ≡ true → Word (a .register .bits) → Word (a .register .filter) → alarmsArea .Holds a
+pub alarms-held : (a : Alarms) → soundAlarms a ≡ true → Word (a .register .bits) → Word (a .register .filter) → alarmsArea .Holds a
 alarms-held a e bits filter = ((register-held (a .register) bits filter, omega (arith, sound-most a e)), tt)
 
 lines-held : (k at : ℕ) (ts cs : List ℕ) → ((i : ℕ) → getD ts i 0 < 256 ^ 4) → ((i : ℕ) → getD cs i 0 < 256 ^ 1)
@@ -72,7 +72,7 @@ module _ (g : Logs) (n : (i : ℕ) → getD (g .counts) i 0 < 256 ^ 1) (t : (i :
   log-held : (i at : ℕ) → logArea .Holds (getD (g .counts) i 0, storedLines 32 at (g .clocks) (g .codes))
   log-held i at = (n i, (length-lines 32 at (g .clocks) (g .codes), lines-held 32 at (g .clocks) (g .codes) t c))
 
-  logs-held : Sized g → logsArea .Holds g
+  pub logs-held : Sized g → logsArea .Holds g
   logs-held z = ((refl, (log-held 0 0, (log-held 1 32, (log-held 2 64, tt)))), z)
 
 -- ---- the emergency profile and the groups

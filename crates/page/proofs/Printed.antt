@@ -61,7 +61,7 @@ log-written : (xs : List Line) → logArea .enc (area xs) ≡ logBytes xs
 unfolding logBytes
 log-written xs = rw (encs-append lineFormat xs (replicate (32 - length xs) (line 0 0)), zero-lines (32 - length xs))
 
-logs-written : (logs : List (List Line)) → length logs ≡ 3 → Short logs → logsArea .enc (laid logs) ≡ flatMap logBytes logs
+pub logs-written : (logs : List (List Line)) → length logs ≡ 3 → Short logs → logsArea .enc (laid logs) ≡ flatMap logBytes logs
 unfolding flatMap
 logs-written logs t s = of-three (λ l. Short l → logsArea .enc (laid l) ≡ flatMap logBytes l) three logs t s
   where

@@ -1,8 +1,7 @@
 -- The numbers of an account are values of their types: those that are held at 32 bits, and those that calls bring.
-use Rattle.page.proofs.Common.{_≡_, refl, ap, _∙_, Bool, true, false, _&&_, cond, List, [], _∷_, _++_, map, reverse, ℕ, zero, suc, _-_, _<_, _≤_}
-use Rattle.page.proofs.Common.{_^_, arith, leb, ltb, length, getD, replicate}
-use Rattle.page.proofs.Common.{leb-true, ltb-true, every, and-left, and-right, every-first, every-rest, pow-pos, Line, EventRow, lawful, lineClock}
-use Rattle.page.proofs.Common.{lineCode, padded, flat, laid, Word, AllInRange, recordOf}
+use Rattle.page.proofs.Common.{_≡_, refl, ap, _∙_, Bool, true, false, cond, List, [], _∷_, _++_, map, reverse, ℕ, zero, suc, _-_, _<_, _≤_, _^_, arith}
+use Rattle.page.proofs.Common.{leb, ltb, length, getD, replicate, leb-true, ltb-true, every, and-left, and-right, every-first, every-rest, pow-pos, Line}
+use Rattle.page.proofs.Common.{EventRow, lawful, lineClock, lineCode, padded, flat, laid, Word, AllInRange, recordOf}
 use mathlib.Core.Option.{Option, none, some}
 use Rattle.base.proofs.Bits.{number-lt}
 use Rattle.emergency.specs.Emergency.{padded as paddedIds}
@@ -14,6 +13,7 @@ use Rattle.calls.specs.declared.Call.{Call}
 use Rattle.history.specs.Effects.{AnyFresh, WhichRegister, alarms, errors, Profile}
 use Rattle.history.specs.Last.{History}
 use Rattle.history.specs.Registers.{stands, bitsOf}
+use Rattle.history.specs.Logs.{logOf}
 use Rattle.history.specs.Profile.{ProfileState, noProfile, waiting, active, groupsOf, profileOf, clocksSince, governed, stateBy, stateAt, profileState}
 use Rattle.history.specs.Account.{acceptedCalls}
 use Rattle.history.specs.OnePhase.{Fresh, Account, asFresh, asCall, account}
@@ -36,7 +36,7 @@ use Rattle.page.specs.Laws.{Typed}
 -- ---- the arrays that hold lists whose lines fit
 module _ (w : ℕ) where
   -- each number of the list fits w bytes
-  abbrev Fit : List ℕ → Type 0
+  abbrev pub Fit : List ℕ → Type 0
   Fit xs = (i : ℕ) → getD xs i 0 < 256 ^ w
 
   fit-append : (xs ys : List ℕ) → Fit xs → Fit ys → Fit (xs ++ ys)
@@ -64,7 +64,7 @@ module _ (w : ℕ) where
         (fit-column xs (every-first (every fits) xs logs h)) (fit-zeros (32 - length (map column xs))))
         (fit-flat logs (every-rest (every fits) xs logs h)) i
 
-counts-fit : {logs : List (List Line)} → Short logs → Fit 1 (map length logs)
+pub counts-fit : {logs : List (List Line)} → Short logs → Fit 1 (map length logs)
 counts-fit noLog i = pow-pos 1
 counts-fit (moreLogs k s) zero = omega arith
 counts-fit (moreLogs k s) (suc i) = counts-fit s i
@@ -74,6 +74,24 @@ clock-fits x e = omega (arith, leb-true (x .clock) 4294967295 (and-left (leb (x 
 
 code-fits : (x : Line) → fits x ≡ true → x .code < 256 ^ 1
 code-fits x e = omega (arith, ltb-true (x .code) 256 (and-right (leb (x .clock) 4294967295) (ltb (x .code) 256) e))
+
+-- the arrays of logs whose lines fit
+module _ (logs : List (List Line)) (h : every (every fits) logs ≡ true) where
+  pub clocks-fit : (i : ℕ) → Word (getD (laid logs .clocks) i 0)
+  unfolding laid
+  clocks-fit i = omega (arith, fit-flat 4 lineClock clock-fits logs h i)
+
+  pub codes-fit : (i : ℕ) → getD (laid logs .codes) i 0 < 256
+  unfolding laid
+  codes-fit i = omega (arith, fit-flat 1 lineCode code-fits logs h i)
+
+-- ---- the numbers of a history
+pub bits-word : (s : WhichRegister) (h : History) → Word (bitsOf s h)
+bits-word s h = omega (arith, number-lt 32 (λ b. stands s b h))
+
+pub lines-fit : (g : AnyFresh) (h : History) → AllProper g h → every (every fits) (map (λ n. logOf g n h) (1 ∷ 2 ∷ 3 ∷ [])) ≡ true
+unfolding every
+lines-fit g h proper = rw (log-fits g 1 h proper, log-fits g 2 h proper, log-fits g 3 h proper)
 
 -- ---- the fields that hold groups and a profile
 
@@ -144,13 +162,6 @@ module _ (rows : List EventRow) (table : every lawful rows ≡ true) (f : Fresh)
   proper : AllProper g h
   proper = all-proper rows table g (settings f t) (reverse (map asCall cs)) (calls-range cs r)
 
-  lines-fit : every (every fits) (v .logs) ≡ true
-  unfolding every
-  lines-fit = rw (log-fits g 1 h proper, log-fits g 2 h proper, log-fits g 3 h proper)
-
-  bits-word : (s : WhichRegister) → Word (bitsOf s h)
-  bits-word s = omega (arith, number-lt 32 (λ b. stands s b h))
-
   typable : Typable (groupsOf h) (profileState g h)
   typable = profile-typable (groupsOf h) (profileOf h) (clocksSince g h) (profile-range g h proper)
 
@@ -163,14 +174,14 @@ module _ (rows : List EventRow) (table : every lawful rows ≡ true) (f : Fresh)
       record {
         openings = omega arith;
         clock = omega arith;
-        alarms = bits-word alarms;
+        alarms = bits-word alarms h;
         alarmFilter = filter-word alarms g h proper;
-        errors = bits-word errors;
+        errors = bits-word errors h;
         errorFilter = filter-word errors g h proper;
         logs = record-sized rows v refl sound;
         counts = counts-fit (lists-short rows (v .logs) (logs-sound rows v refl sound));
-        clocks = λ i. omega (arith, fit-flat 4 lineClock clock-fits (v .logs) lines-fit i);
-        codes = fit-flat 1 lineCode code-fits (v .logs) lines-fit;
+        clocks = clocks-fit (v .logs) (lines-fit g h proper);
+        codes = codes-fit (v .logs) (lines-fit g h proper);
         id = typable .0;
         activation = typable .1;
         eight = ap length held ∙ padded-eight (groupsOf h) (groups-most rows (account rows f cs) sound);

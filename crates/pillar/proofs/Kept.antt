@@ -6,7 +6,6 @@ use Prim.Native.Nat.{ℕ, _^_, _<_}
 use Rattle.calls.specs.declared.Answer.{Answer}
 use Rattle.calls.specs.declared.Answer.the-variants.{Accepted, Refused}
 use Rattle.calls.specs.declared.Call.{Call}
-use Rattle.calls.specs.declared.Letter.{Letter}
 use Rattle.calls.specs.declared.Command.{Command}
 use Rattle.calls.specs.declared.Parsed.{Parsed}
 use Rattle.calls.specs.declared.Parsed.the-variants.{Ok, NoKind}
@@ -16,7 +15,7 @@ use Rattle.meter.specs.declared.Outcome.{Outcome}
 use Rattle.meter.specs.Machine.{applied}
 use Rattle.page.specs.Layout.{writeAnswer, written, readOf}
 use Rattle.replay.proofs.Ranges.{ParsedInRange, call-range}
-use Rattle.pillar.specs.Interface.{outcomeOn, keptNumber, keptPage, letterOr, performedLetter, callNumber, callPage, callLetter, Called}
+use Rattle.pillar.specs.Interface.{outcomeOn, keptNumber, keptPage, performedLetter, callNumber, callPage, callLetter, Called}
 
 module _ (rows : List EventRow) (o : Outcome) (page : List ℕ) where
   pub kept-refused : (n : ℕ) → o .answer ≡ Refused n → (n ≡ keptNumber rows o page) × (page ≡ keptPage rows o page)
@@ -35,14 +34,14 @@ module _ (rows : List EventRow) (page : List ℕ) (r : Command) (p : Parsed) (pa
   call-no-kind b e letter = record { answers = rw (← parsed, e); leaves = rw (← parsed, e); stores = rw (← parsed, e) letter }
 
   module _ (c : Call) (names : p ≡ Ok c) (read : Outcome) (reads : read ≡ readOf rows page) where
-    pub call-refused : (n b : ℕ) → read .answer ≡ Refused n → ((x : Letter) → b ≡ letterByte (letterOr (Refused n) x)) → Called rows page r n page b
+    pub call-refused : (n b : ℕ) → read .answer ≡ Refused n → b ≡ letterByte (performedLetter rows page NoKind) → Called rows page r n page b
     unfolding callNumber callPage callLetter
     call-refused n b e letter =
         let refused : readOf rows page .answer ≡ Refused n = ap (λ (o : Outcome). o .answer) (sym reads) ∙ e in
         record {
           answers = rw (← parsed, names, refused);
           leaves = rw (← parsed, names, refused);
-          stores = rw (← parsed, names, refused) (letter (outcomeOn rows page c .letter));
+          stores = rw (← parsed, names, refused) letter;
         }
 
     pub call-kept : (n : ℕ) (o : Outcome) (after : List ℕ) (b : ℕ) → read .answer ≡ Accepted → o ≡ applied rows (read .meter) c

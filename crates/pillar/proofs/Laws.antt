@@ -1,13 +1,14 @@
 -- A page that is read holds a sound record, and calls keep it sound, so that the writer takes it: the page after a call is that of the machine's
 -- record, and after a list of calls that of the account.
 use mathlib.Core.Path.{_≡_, refl, sym, ap, _∙_}
-use mathlib.Core.Bool.{Bool, true, false, _&&_, cond}
-use mathlib.Core.List.{List, [], _∷_, _++_, append-nil}
+use mathlib.Core.Bool.{true, false, cond}
+use mathlib.Core.List.{List, [], _∷_, _++_}
 use Prim.Native.Nat.{ℕ}
 use native.Mathlib.Omega.{arith}
 use lib.Dec.{eqb, leb}
-use lib.ListN.{length, drop, drop-of-length-le}
+use lib.ListN.{length, drop}
 use borrow.Author.Tests.{le-leb}
+use Rattle.base.proofs.Bools.{and-left}
 use Rattle.base.specs.Tests.{every, within}
 use Rattle.codec.specs.Lawful.{Bytes}
 use Rattle.events.specs.Table.{EventRow, builtIn, lawful}
@@ -38,74 +39,50 @@ use Rattle.page.specs.Layout.{layout, start, size, pageOf, writeAnswer, written
 use Rattle.page.specs.Laws.{Typed}
 use Rattle.page.specs.AccountPage.{accountPage}
 use Rattle.page.proofs.RoundTrip as roundtrip
+use Rattle.page.proofs.Tests.{all-passed}
 use Rattle.page.proofs.Ranges.{account-typed}
 use Rattle.page.proofs.Printed.{list-written}
 use Rattle.replay.specs.Replay.{withCall, callsIn, nextOf, meterAfter}
-use Rattle.pillar.specs.Interface.{numberOr, bytesOr, keptNumber, keptPage, outcomeOn, performedNumber, performedPage, freshNumber, freshPage, callNumber}
-use Rattle.pillar.specs.Interface.{callPage, performedLetter, callLetter}
-use Rattle.pillar.proofs.Kept.{kept-refused}
+use Rattle.replay.specs.Numbers.{numberOr, ifAccepted}
+use Rattle.replay.proofs.Numbers.{kept-answer, kept-bytes, kept-written, kept-page, kept-same, read-same, number-of}
+use Rattle.pillar.specs.Interface.{keptNumber, keptPage, outcomeOn, performedNumber, performedPage, freshNumber, freshPage, callNumber, callPage}
+use Rattle.pillar.specs.Interface.{performedLetter, callLetter}
 use Rattle.pillar.specs.Laws.{callPages, LawsOf, Laws}
 
 module _ (rows : List EventRow) where
   -- ---- a sound record goes to the writer
 
-  kept-answer : (o : Outcome) (page : List ℕ) → (o .answer ≡ Accepted → soundMeter rows (o .meter) ≡ true)
-      → keptNumber rows o page ≡ numberOr (o .answer) (cond (leb size (length page)) 0 8)
-  unfolding keptNumber writeAnswer
-  kept-answer o page sound = go (o .answer) sound
-    where
-      fits : (b : Bool) → answerNumber (cond b Accepted (Refused 8)) ≡ cond b 0 8
-      fits true = refl
-      fits false = refl
+  module _ (o : Outcome) (page : List ℕ) where
+    sound-answer : (o .answer ≡ Accepted → soundMeter rows (o .meter) ≡ true)
+        → keptNumber rows o page ≡ numberOr (o .answer) (cond (leb size (length page)) 0 8)
+    unfolding keptNumber writeAnswer
+    sound-answer = kept-answer (o .answer) (soundMeter rows (o .meter)) (leb size (length page))
 
-      go : (a : Answer) → (a ≡ Accepted → soundMeter rows (o .meter) ≡ true)
-          → numberOr a (answerNumber (cond (soundMeter rows (o .meter)) (cond (leb size (length page)) Accepted (Refused 8)) (Refused 12)))
-          ≡ numberOr a (cond (leb size (length page)) 0 8)
-      go Accepted s = rw (s refl) (fits (leb size (length page)))
-      go (Refused n) s = refl
-
-  kept-bytes : (o : Outcome) (page : List ℕ) → (o .answer ≡ Accepted → soundMeter rows (o .meter) ≡ true)
-      → keptPage rows o page ≡ bytesOr (o .answer) (cond (leb size (length page)) (pageOf (o .meter) ++ drop size page) page) page
-  unfolding keptPage written
-  kept-bytes o page sound = go (o .answer) sound
-    where
-      fitting : List ℕ
-      fitting = cond (leb size (length page)) (pageOf (o .meter) ++ drop size page) page
-
-      go : (a : Answer) → (a ≡ Accepted → soundMeter rows (o .meter) ≡ true)
-          → bytesOr a (cond (soundMeter rows (o .meter)) fitting page) page ≡ bytesOr a fitting page
-      go Accepted s = rw (s refl)
-      go (Refused n) s = refl
-
-  module _ (o : Outcome) (page : List ℕ) (whole : length page ≡ size) where
-    full : leb size (length page) ≡ true
-    full = le-leb size (length page) (omega arith)
-
-    pub kept-written : o .answer ≡ Accepted → soundMeter rows (o .meter) ≡ true → keptPage rows o page ≡ pageOf (o .meter)
+    sound-bytes : (o .answer ≡ Accepted → soundMeter rows (o .meter) ≡ true)
+        → keptPage rows o page ≡ ifAccepted (o .answer) (cond (leb size (length page)) (pageOf (o .meter) ++ drop size page) page) page
     unfolding keptPage written
-    kept-written e sound = rw (e, sound, full, drop-of-length-le page {i = size} (omega arith)) (append-nil (pageOf (o .meter)))
+    sound-bytes = kept-bytes (o .answer) (soundMeter rows (o .meter)) (leb size (length page)) (pageOf (o .meter) ++ drop size page) page
 
-  -- on any number but 0 every byte stays
-  kept-same : (o : Outcome) (page : List ℕ) → (keptNumber rows o page ≡ 0 → ⊥) → keptPage rows o page ≡ page
-  unfolding keptNumber keptPage
-  kept-same o page some = go (o .answer) (writeAnswer rows (o .meter) page) refl some
-    where
-      go : (a w : Answer) → writeAnswer rows (o .meter) page ≡ w → (numberOr a (answerNumber w) ≡ 0 → ⊥)
-          → bytesOr a (written rows (o .meter) page) page ≡ page
-      go Accepted Accepted e some = absurd (some refl)
-      go Accepted (Refused n) e some = roundtrip.laws .by-table rows .refused-same (o .meter) page n e
-      go (Refused n) w e some = refl
+    module _ (whole : length page ≡ size) (sound : soundMeter rows (o .meter) ≡ true) where
+      sound-written : o .answer ≡ Accepted → keptPage rows o page ≡ pageOf (o .meter)
+      unfolding keptPage written
+      sound-written = kept-written size (o .answer) (soundMeter rows (o .meter)) (pageOf (o .meter)) page whole sound
+
+      sound-page : ((n : ℕ) → o .answer ≡ Refused n → page ≡ pageOf (o .meter)) → keptPage rows o page ≡ pageOf (o .meter)
+      unfolding keptPage written
+      sound-page = kept-page size (o .answer) (soundMeter rows (o .meter)) (pageOf (o .meter)) page whole sound
+
+    -- on any number but 0 every byte stays
+    refused-bytes : (keptNumber rows o page ≡ 0 → ⊥) → keptPage rows o page ≡ page
+    unfolding keptNumber keptPage writeAnswer written
+    refused-bytes = kept-same (o .answer) (soundMeter rows (o .meter)) (leb size (length page)) (pageOf (o .meter) ++ drop size page) page
 
   call-same : (page : List ℕ) (r : Command) → (callNumber rows page r ≡ 0 → ⊥) → callPage rows page r ≡ page
   unfolding callNumber callPage
-  call-same page r some = go (callOf r) some
+  call-same page r = go (callOf r)
     where
-      read : (o : Outcome) (a : Answer) → (numberOr a (keptNumber rows o page) ≡ 0 → ⊥) → bytesOr a (keptPage rows o page) page ≡ page
-      read o Accepted some = kept-same o page some
-      read o (Refused n) some = refl
-
       go : (p : Parsed) → (performedNumber rows page p ≡ 0 → ⊥) → performedPage rows page p ≡ page
-      go (Ok c) some = read (outcomeOn rows page c) (readOf rows page .answer) some
+      go (Ok c) some = read-same (readOf rows page .answer) _ _ page (refused-bytes (outcomeOn rows page c) page) some
       go NoKind some = refl
 
   -- ---- the kind comes first
@@ -160,43 +137,28 @@ module _ (rows : List EventRow) (table : every lawful rows ≡ true) where
     page-read = go (callOf r)
       where
         go : (p : Parsed) → performedPage rows page p ≡ keptPage rows (performed rows m p) page
-        go (Ok c) = ap (λ (o : Outcome). bytesOr (o .answer) (keptPage rows (applied rows (o .meter) c) page) page) (k .reads)
+        go (Ok c) = ap (λ (o : Outcome). ifAccepted (o .answer) (keptPage rows (applied rows (o .meter) c) page) page) (k .reads)
         go NoKind = refl
 
     answer-on : callNumber rows page r ≡ answerNumber (nextOf rows m r .answer)
     answer-on =
         number-read
-        ∙ kept-answer rows (nextOf rows m r) page (λ e. next-sound)
-        ∙ rw (full rows (nextOf rows m r) page whole) (go (nextOf rows m r .answer))
-      where
-        go : (a : Answer) → numberOr a 0 ≡ answerNumber a
-        go Accepted = refl
-        go (Refused n) = refl
+        ∙ sound-answer rows (nextOf rows m r) page (λ e. next-sound)
+        ∙ rw (le-leb size (length page) (omega (arith, whole))) (number-of (nextOf rows m r .answer))
 
     pub page-on : callPage rows page r ≡ pageOf (nextOf rows m r .meter)
-    page-on = page-read ∙ go (nextOf rows m r .answer) refl
-      where
-        o : Outcome
-        o = nextOf rows m r
-
-        go : (a : Answer) → o .answer ≡ a → keptPage rows o page ≡ pageOf (o .meter)
-        go Accepted e = kept-written rows o page whole e next-sound
-        go (Refused n) e = sym (kept-refused rows o page n e .1) ∙ sym (k .back) ∙ ap pageOf (sym (meter.laws .1 rows table .command-refused-same m r n e))
+    page-on =
+        page-read
+        ∙ sound-page rows (nextOf rows m r) page whole next-sound
+        (λ n e. sym (k .back) ∙ ap pageOf (sym (meter.laws .1 rows table .command-refused-same m r n e)))
 
   -- an accepted page: the record is the one in its bytes
   accepted-in : (s : List ℕ) → readOf rows s .answer ≡ Accepted → (readOf rows s ≡ acceptedOutcome (meterIn s)) × (layout .valid s start ≡ true)
   unfolding readOf holdsSound
-  accepted-in s e = go (eqb (length s) size) (hasPairs s) (layout .valid s start) (soundMeter rows (meterIn s)) e
-    where
-      read : Bool → Bool → Bool → Bool → Outcome
-      read a b v d = cond a (cond b (cond (v && d) (acceptedOutcome (meterIn s)) (refusedOutcome 11)) (refusedOutcome 10)) (refusedOutcome 9)
-
-      go : (a b v d : Bool) → read a b v d .answer ≡ Accepted → (read a b v d ≡ acceptedOutcome (meterIn s)) × (v ≡ true)
-      go true true true true e = (refl, refl)
-      go true true true false e = let z : _≡_ {A = ℕ} 0 1 = cc in absurd (omega arith)
-      go true true false d e = let z : _≡_ {A = ℕ} 0 1 = cc in absurd (omega arith)
-      go true false v d e = let z : _≡_ {A = ℕ} 0 1 = cc in absurd (omega arith)
-      go false b v d e = let z : _≡_ {A = ℕ} 0 1 = cc in absurd (omega arith)
+  accepted-in s e =
+      let (len, (begins, whole)) = all-passed (λ (o : Outcome). o .answer) (acceptedOutcome (meterIn s)) refusedOutcome (λ n. refl) (eqb (length s) size)
+      (hasPairs s) (holdsSound rows s) e in
+      (rw (len, begins, whole), and-left (layout .valid s start) (soundMeter rows (meterIn s)) whole)
 
   held-sized : (m : Meter) → layout .Holds m → Sized (m .logs)
   unfolding layout
@@ -298,6 +260,12 @@ module _ (rows : List EventRow) (table : every lawful rows ≡ true) where
       go (Ok c) Accepted names e =
           rw e (ap letterByte (none c (applied rows m c .answer) refl (λ z. refused (answered c names e ∙ z))))
 
+  -- an accepted fresh leaves its meter's page
+  pub fresh-written : (page : List ℕ) (f : Fresh) → length page ≡ size → freshOf f .answer ≡ Accepted → SettingsInRange f
+      → freshPage rows page f ≡ pageOf (recordOf (freshState f))
+  fresh-written page f whole e range =
+      sound-written rows (freshOf f) page whole (fresh-sound f range e) e ∙ ap pageOf (fresh-laws .accepted-meter f e)
+
   -- a fresh meter that is accepted, and records of calls that are in range
   module _ (page : List ℕ) (f : Fresh) (rs : List Command) (whole : length page ≡ size) (e : freshOf f .answer ≡ Accepted) (range : SettingsInRange f) where
     accepted : Settings f
@@ -306,9 +274,7 @@ module _ (rows : List EventRow) (table : every lawful rows ≡ true) where
     pages-reached : AllInRange (callsIn rs) → callPages rows (freshPage rows page f) rs ≡ pageOf (recordAfter rows (recordOf (freshState f)) (callsIn rs))
     unfolding recordAfter
     pages-reached i =
-        let first : freshPage rows page f ≡ pageOf (recordOf (freshState f)) =
-        kept-written rows (freshOf f) page whole e (fresh-sound f range e) ∙ ap pageOf (fresh-laws .accepted-meter f e) in
-        ap (λ (page : List ℕ). callPages rows page rs) first ∙ pages-from f accepted rs [] i tt
+        ap (λ (page : List ℕ). callPages rows page rs) (fresh-written page f whole e range) ∙ pages-from f accepted rs [] i tt
 
     account-page : AllInRange (callsIn rs) → callPages rows (freshPage rows page f) rs ≡ accountPage (account rows f (callsIn rs))
     account-page i =
@@ -329,8 +295,8 @@ module _ (rows : List EventRow) (table : every lawful rows ≡ true) (page : Lis
   fresh-same =
       let sound = fresh-sound rows table f range in
       let built-in = fresh-sound builtIn built-in-lawful f range in (
-        kept-answer rows (freshOf f) page sound ∙ sym (kept-answer builtIn (freshOf f) page built-in),
-        kept-bytes rows (freshOf f) page sound ∙ sym (kept-bytes builtIn (freshOf f) page built-in),
+        sound-answer rows (freshOf f) page sound ∙ sym (sound-answer builtIn (freshOf f) page built-in),
+        sound-bytes rows (freshOf f) page sound ∙ sym (sound-bytes builtIn (freshOf f) page built-in),
       )
 
 laws-of : (rows : List EventRow) → every lawful rows ≡ true → LawsOf rows
@@ -338,12 +304,12 @@ unfolding callsIn
 laws-of rows table =
     record {
       fresh-any-table = fresh-same rows table;
-      fresh-answer = λ page f range. kept-answer rows (freshOf f) page (fresh-sound rows table f range);
+      fresh-answer = λ page f range. sound-answer rows (freshOf f) page (fresh-sound rows table f range);
       call-no-kind = no-kind rows;
       call-unread = unread rows;
       call-answer = λ page r bytes e i. answer-on rows table (from-page rows table page bytes e) r i;
       call-page = λ page r bytes e i. page-on rows table (from-page rows table page bytes e) r i;
-      fresh-refused = λ page f. kept-same rows (freshOf f) page;
+      fresh-refused = λ page f. refused-bytes rows (freshOf f) page;
       call-refused = call-same rows;
       account-page = λ page f rs whole e range. account-page rows table page f rs whole e range;
       refused-letter = refused-letter rows table;

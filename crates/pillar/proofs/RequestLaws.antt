@@ -43,10 +43,11 @@ use Rattle.server.proofs.Laws.{unchanged}
 use Rattle.server.proofs.Kept.{kept-sound}
 use Rattle.server.specs.History.{request, AllInputsInRange, inputCalls, callsBehind}
 use Rattle.server.proofs.History.{range-append, record-append, reached, named, followed}
-use Rattle.pillar.specs.Interface.{numberOr, freshPage, callPage}
+use Rattle.replay.specs.Numbers.{numberOr}
+use Rattle.pillar.specs.Interface.{freshPage, callPage}
 use Rattle.pillar.specs.Request.{readFirst, serviceOn, requestNumber, requestPage, requestBuffer, requestLength, requestLetter}
 use Rattle.pillar.specs.RequestLaws.{Sent, command, bytes, sentPages, parsedInput, inputsIn, RequestLawsOf, RequestLaws}
-use Rattle.pillar.proofs.Laws.{Read, kept-written, page-on, from-page, from-record, fresh-sound}
+use Rattle.pillar.proofs.Laws.{Read, page-on, from-page, from-record, fresh-written}
 
 module _ (rows : List EventRow) (m : Meter) where
   sound-service : (s l : List ℕ) → soundMeter rows m ≡ true → serviceSound rows m s l ≡ service rows m s l
@@ -246,10 +247,8 @@ unfolding recordAfter
 account-of rows table page f xs whole e range i =
     let t = fresh-laws .accepted-settings f range e in
     let calls = callsBehind rows f [] (inputsIn xs) in
-    let first : freshPage rows page f ≡ pageOf (recordOf (freshState f)) =
-    kept-written rows (freshOf f) page whole e (fresh-sound rows table f range e) ∙ ap pageOf (fresh-laws .accepted-meter f e) in
     let in-range = followed rows table f t (inputsIn xs) [] i tt .0 in
-    ap (λ (page : List ℕ). sentPages rows page xs) first ∙ pages-from rows table f t xs [] i tt
+    ap (λ (page : List ℕ). sentPages rows page xs) (fresh-written rows table page f whole e range) ∙ pages-from rows table f t xs [] i tt
     ∙ ap pageOf (meter.laws .1 rows table .simulates f calls t in-range) ∙ sym (list-written rows table f calls t in-range)
 
 laws-of : (rows : List EventRow) → every lawful rows ≡ true → RequestLawsOf rows

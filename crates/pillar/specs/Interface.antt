@@ -5,8 +5,6 @@ use mathlib.Core.List.{List}
 use Prim.Native.Nat.{ℕ}
 use Rattle.events.specs.Table.{EventRow}
 use Rattle.calls.specs.declared.Call.{Call}
-use Rattle.calls.specs.declared.Answer.{Answer}
-use Rattle.calls.specs.declared.Answer.the-variants as answer
 use Rattle.calls.specs.declared.Letter.{Letter}
 use Rattle.calls.specs.declared.Letter.the-variants.{None}
 use Rattle.calls.specs.declared.Command.{Command}
@@ -18,18 +16,7 @@ use Rattle.meter.specs.declared.Outcome.{Outcome}
 use Rattle.meter.specs.Machine.{applied}
 use Rattle.meter.specs.Fresh.{freshOf}
 use Rattle.page.specs.Layout.{writeAnswer, written, readOf}
-use Rattle.replay.specs.declared.Replayed.{Replayed}
-use Rattle.replay.specs.declared.Replayed.the-variants.{Written, Empty, Bad, Short, Refused}
-
--- the number of a refusal, else that of what follows: 'Place, in order'
-abbrev pub numberOr : Answer → ℕ → ℕ
-numberOr answer.Accepted n = n
-numberOr (answer.Refused r) n = r
-
--- a refusal leaves every byte
-abbrev pub bytesOr : Answer → List ℕ → List ℕ → List ℕ
-bytesOr answer.Accepted after before = after
-bytesOr (answer.Refused r) after before = before
+use Rattle.replay.specs.Numbers.{numberOr, ifAccepted}
 
 -- an accepted record goes to the writer: 'writer | 8 | buffer under 558 bytes', now the page's length
 unfoldable pub keptNumber : List EventRow → Outcome → List ℕ → ℕ
@@ -37,7 +24,7 @@ keptNumber rows o page = numberOr (o .answer) (answerNumber (writeAnswer rows (o
 
 -- the bytes afterwards: what the writer leaves, or as they were on a refusal
 unfoldable pub keptPage : List EventRow → Outcome → List ℕ → List ℕ
-keptPage rows o page = bytesOr (o .answer) (written rows (o .meter) page) page
+keptPage rows o page = ifAccepted (o .answer) (written rows (o .meter) page) page
 
 -- 'Fresh takes mode, threshold, Over, Under, clock': 1, 4, 5, then the writer's
 abbrev pub freshNumber : List EventRow → List ℕ → Fresh → ℕ
@@ -59,17 +46,12 @@ performedNumber rows page NoKind = 13
 
 -- the bytes afterwards: the page of the record that the call handed back, or as they were on a refusal
 abbrev pub performedPage : List EventRow → List ℕ → Parsed → List ℕ
-performedPage rows page (Ok c) = bytesOr (readOf rows page .answer) (keptPage rows (outcomeOn rows page c) page) page
+performedPage rows page (Ok c) = ifAccepted (readOf rows page .answer) (keptPage rows (outcomeOn rows page c) page) page
 performedPage rows page NoKind = page
 
 -- document 02, A2: the letter of the move that the call made; '.. none, and so does a call that is refused ..', by the reader too
-abbrev pub letterOr : Answer → Letter → Letter
-letterOr answer.Accepted x = x
-letterOr (answer.Refused r) x = None
-
--- of a call on the record of a page
 abbrev pub performedLetter : List EventRow → List ℕ → Parsed → Letter
-performedLetter rows page (Ok c) = letterOr (readOf rows page .answer) (outcomeOn rows page c .letter)
+performedLetter rows page (Ok c) = ifAccepted (readOf rows page .answer) (outcomeOn rows page c .letter) None
 performedLetter rows page NoKind = None
 
 -- a command on the record of a page
@@ -89,14 +71,6 @@ pub record Called (rows : List EventRow) (page : List ℕ) (r : Command) (number
   pub answers : number ≡ callNumber rows page r
   pub leaves : after ≡ callPage rows page r
   pub stores : letter ≡ callLetter rows page r
-
--- what became of a list as a number: 0 where its page is written; 'Empty input', `bad` and `short` above every refusal
-abbrev pub replayNumber : Replayed → ℕ
-replayNumber Written = 0
-replayNumber Empty = 100
-replayNumber Bad = 101
-replayNumber Short = 102
-replayNumber (Refused n) = n
 
 -- 'reader | 9 | length not 558', now the page's length, '10 | a pair differs', '11 | the record would not be sound, or Exceeded above 1'
 abbrev pub checkNumber : List EventRow → List ℕ → ℕ

@@ -20,7 +20,8 @@ use Rattle.meter.specs.Fresh.{freshOf}
 use Rattle.page.specs.Layout.{size, pageOf, readOf}
 use Rattle.page.specs.AccountPage.{accountPage}
 use Rattle.replay.specs.Replay.{callsIn, nextOf}
-use Rattle.pillar.specs.Interface.{numberOr, freshNumber, freshPage, callNumber, callPage, callLetter}
+use Rattle.replay.specs.Numbers.{numberOr}
+use Rattle.pillar.specs.Interface.{freshNumber, freshPage, callNumber, callPage, callLetter}
 
 -- calls one after the other, each on the page that the one before left
 unfoldable pub callPages : List EventRow → List ℕ → List Command → List ℕ

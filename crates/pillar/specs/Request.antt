@@ -13,7 +13,7 @@ use Rattle.calls.specs.Calls.{answerNumber, letterByte}
 use Rattle.meter.specs.declared.Meter.{Meter}
 use Rattle.page.specs.Layout.{writeAnswer, written, readOf}
 use Rattle.server.specs.Service.{Service, refusedWith, serviceSound, filledBy}
-use Rattle.pillar.specs.Interface.{numberOr}
+use Rattle.replay.specs.Numbers.{numberOr}
 
 -- a page that the reader refuses: its number, and nothing else
 abbrev pub readFirst : Answer → Meter → Service → Service

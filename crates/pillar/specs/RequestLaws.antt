@@ -23,7 +23,8 @@ use Rattle.page.specs.AccountPage.{accountPage}
 use Rattle.server.specs.Service.{service, filledBy}
 use Rattle.server.specs.Laws.{isWhole}
 use Rattle.server.specs.History.{Input, call, request, AllInputsInRange, callsBehind}
-use Rattle.pillar.specs.Interface.{numberOr, freshPage, callPage}
+use Rattle.replay.specs.Numbers.{numberOr}
+use Rattle.pillar.specs.Interface.{freshPage, callPage}
 use Rattle.pillar.specs.Request.{requestNumber, requestPage, requestBuffer, requestLength, requestLetter}
 
 -- a call of `pillar_call`, or of `pillar_request` with its answer buffer

@@ -11,7 +11,8 @@ ghost use Rattle.tables.specs.Index.{tableIn};
 ghost use Rattle.calls.specs.Calls.{commandOf};
 ghost use Rattle.meter.specs.Settings.{settingsOf};
 ghost use Rattle.replay.specs.Replay.{replayAnswer, replayed};
-ghost use Rattle.pillar.specs.Interface.{keptNumber, keptPage, freshNumber, freshPage, Called, replayNumber, checkNumber};
+ghost use Rattle.replay.specs.Numbers.{replayNumber};
+ghost use Rattle.pillar.specs.Interface.{keptNumber, keptPage, freshNumber, freshPage, Called, checkNumber};
 ghost use Rattle.pillar.specs.Laws.{Laws};
 
 mod bill;
@@ -24,20 +25,6 @@ use calls::Command;
 use calls::Parsed;
 use meter::Meter;
 use meter::Outcome;
-use replay::Replayed;
-
-// 0, the number of a refusal, or one above every refusal's for what document 01 prints as words.
-fn replayed_number(replayed: Replayed) -> u32
-    ensures { λ r. ⌜ r ≡ replayNumber replayed ⌝ }
-{
-    match replayed {
-        Replayed::Written => 0,
-        Replayed::Empty => 100,
-        Replayed::Bad => 101,
-        Replayed::Short => 102,
-        Replayed::Refused(number) => number as u32,
-    }
-}
 
 // Writes the record of an accepted outcome into the page.
 fn keep(table: &[u16; 256], outcome: Outcome, page: &mut [u8]) -> u32
@@ -152,7 +139,7 @@ pub extern "C" fn pillar_replay(records: &[u8], table: &[u8], page: &mut [u8]) -
     ensures { λ r. ⌜ (r ≡ replayNumber (replayAnswer (now (records .entry)) (now (page .entry)))) × (now (page .exit) ≡ replayed (tableOf (now (table .entry))) (now (records .entry)) (now (page .entry))) ⌝ }
 {
     let index = tables::index_of(table);
-    replayed_number(replay::replay(&index, records, page))
+    replay::replay(&index, records, page).number()
 }
 
 // Whether `pillar_call` can read a page: 9 if it is not of 599 bytes, 10 if a pair differs, 11 if its

@@ -1,7 +1,7 @@
 -- Demand 3 of what `replay` leaves: an input that it takes is a trace, and the buffer then begins with the page of the trace's account. So what holds of the
 -- account's switch holds of the page's.
 use mathlib.Core.Path.{_≡_, refl, sym, ap, _∙_}
-use mathlib.Core.Bool.{Bool, true, false, _&&_, cond}
+use mathlib.Core.Bool.{true, _&&_}
 use mathlib.Core.List.{List, [], _∷_, flatMap}
 use Prim.Native.Nat.{ℕ, _/_, _%_, _≤_}
 use native.Mathlib.Omega.{arith}
@@ -14,7 +14,6 @@ use Rattle.base.proofs.Bools.{and-left, and-right}
 use Rattle.codec.specs.BigEndian.{be}
 use Rattle.codec.specs.Lawful.{Bytes}
 use Rattle.events.specs.Table.{EventRow, lawful}
-use Rattle.calls.specs.declared.Answer.{Answer}
 use Rattle.calls.specs.declared.Answer.the-variants as answer
 use Rattle.control.specs.Control.{soundControl}
 use Rattle.history.specs.OnePhase.{Account}
@@ -30,22 +29,13 @@ use Rattle.page.specs.AccountPage.{accountPage}
 use Rattle.page.specs.Demand3.{Trace}
 use Rattle.page.proofs.RoundTrip.{page-length}
 use Rattle.page.proofs.Traces as traces
-use Rattle.replay.specs.declared.Replayed.{Replayed}
-use Rattle.replay.specs.declared.Replayed.the-variants.{Written, Empty, Bad, Short, Refused}
-use Rattle.replay.specs.Replay.{recordLength, firstIn, laterIn, settingsIn, callsIn, startOf, accountIn, unlessRefused, endOf, replayAnswer, replayed}
+use Rattle.replay.specs.declared.Replayed.the-variants.{Written}
+use Rattle.replay.specs.Replay.{recordLength, firstIn, laterIn, settingsIn, callsIn, startOf, accountIn, replayAnswer, replayed}
 use Rattle.replay.specs.Laws.{pageIn, ComparedInputs, switchIn}
 use Rattle.replay.proofs.Records.{record-lawful}
+use Rattle.replay.proofs.Answers.{started}
 use Rattle.replay.proofs.Ranges.{settings-range}
 use Rattle.replay.proofs.Runs.{settings, in-range, printed}
-
--- an input that is taken begins with an accepted fresh
-started : (empty short fresh : Bool) (a : Answer) (end : Replayed)
-    → cond empty Empty (cond short Short (cond fresh (unlessRefused a end) Bad)) ≡ Written → a ≡ answer.Accepted
-started true short fresh a end e = let z : _≡_ {A = ℕ} 0 1 = cc in absurd (omega arith)
-started false true fresh a end e = let z : _≡_ {A = ℕ} 0 1 = cc in absurd (omega arith)
-started false false true answer.Accepted end e = refl
-started false false true (answer.Refused n) end e = let z : _≡_ {A = ℕ} 0 1 = cc in absurd (omega arith)
-started false false false a end e = let z : _≡_ {A = ℕ} 0 1 = cc in absurd (omega arith)
 
 -- a switch that is a position is one byte of the page
 page-switch : (a : Account) → a .switch ≤ 2 → switchIn (accountPage a) ≡ a .switch
@@ -63,7 +53,7 @@ sound-switch rows a e =
 module _ (s out : List ℕ) (bytes : Bytes s) (e : replayAnswer s out ≡ Written) where
   accepted : startOf (firstIn s) .answer ≡ answer.Accepted
   unfolding replayAnswer
-  accepted = started (eqb (length s) 0) (ltb (length s) recordLength) (eqb (firstIn s .kind) 0) (startOf (firstIn s) .answer) (endOf s out) e
+  accepted = started (eqb (length s) 0) (ltb (length s) recordLength) (eqb (firstIn s .kind) 0) (startOf (firstIn s) .answer) _ e
 
   module _ (rows : List EventRow) (table : every lawful rows ≡ true) where
     trace : Trace

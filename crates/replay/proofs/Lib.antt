@@ -1,5 +1,8 @@
+pub mod Lists
 pub mod Records
 pub mod Ranges
+pub mod Answers
+pub mod Numbers
 pub mod Runs
 pub mod Inputs
 pub mod Digits

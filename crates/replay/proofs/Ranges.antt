@@ -9,8 +9,6 @@ use lib.IntN.{pos, negsuc}
 use borrow.Author.Tests.{ltb-true, ltb-false, le-leb}
 use Rattle.codec.specs.Format.{AllHold}
 use Rattle.calls.specs.declared.Call.{Call}
-use Rattle.calls.specs.declared.Call.the-variants.{Sample, RemoteDisconnect, RemoteReconnect, ManualDisconnect, ManualReconnect, SetMode, SetLimiter}
-use Rattle.calls.specs.declared.Call.the-variants.{SetClock, Event, SetAlarmFilter, SetErrorFilter, ClearAlarms, ClearErrors, ClearLog, Script, SetGroups, SetProfile}
 use Rattle.calls.specs.declared.Command.{Command}
 use Rattle.calls.specs.declared.Parsed.{Parsed}
 use Rattle.calls.specs.declared.Parsed.the-variants.{Ok, NoKind}
@@ -20,10 +18,10 @@ use Rattle.replay.specs.Input.{recordFormat}
 use Rattle.replay.specs.Replay.{settingsIn, withCall, callsIn}
 
 -- a number of four bytes is one of 32 bits, and so is its two's complement
-word : (n : ℕ) → n < 256 ^ 4 → Word n
+pub word : (n : ℕ) → n < 256 ^ 4 → Word n
 word n h = omega arith
 
-signed-range : (n : ℕ) → n < 256 ^ 4 → Signed (signedOf n)
+pub signed-range : (n : ℕ) → n < 256 ^ 4 → Signed (signedOf n)
 signed-range n h = go (ltb n 2147483648) refl
   where
     go : (b : Bool) → ltb n 2147483648 ≡ b → Signed (cond b (pos n) (negsuc (4294967295 - n)))
@@ -35,9 +33,10 @@ abbrev pub ParsedInRange : Parsed → Type 0
 ParsedInRange (Ok c) = InRange c
 ParsedInRange NoKind = Unit
 
-this-or : (b : Bool) (c : Call) (rest : Parsed) → InRange c → ParsedInRange rest → ParsedInRange (cond b (Ok c) rest)
-this-or true c rest i r = i
-this-or false c rest i r = r
+-- of what a test chooses, if it holds of both
+pub this-or : {A : Type 0} (P : A → Type 0) (b : Bool) {x y : A} → P x → P y → P (cond b x y)
+this-or P true i r = i
+this-or P false i r = r
 
 -- of any command of numbers of 32 bits
 pub call-range : (r : Command) → r .n1 < 256 ^ 4 → r .n2 < 256 ^ 4 → r .n3 < 256 ^ 4 → r .n4 < 256 ^ 4 → r .n5 < 256 ^ 4 → ParsedInRange (callOf r)
@@ -49,23 +48,23 @@ call-range r h1 h2 h3 h4 h5 =
     let n2 = word (r .n2) h2 in
     let n3 = word (r .n3) h3 in
     let n4 = word (r .n4) h4 in
-    this-or (eqb k 1) (Sample (signedOf (r .n1))) _ z
-    (this-or (eqb k 2) RemoteDisconnect _ tt
-    (this-or (eqb k 3) RemoteReconnect _ tt
-    (this-or (eqb k 4) ManualDisconnect _ tt
-    (this-or (eqb k 5) ManualReconnect _ tt
-    (this-or (eqb k 6) (SetMode (r .n1)) _ n
-    (this-or (eqb k 7) (SetLimiter (signedOf (r .n1)) (r .n2) (r .n3)) _ (z, (n2, n3))
-    (this-or (eqb k 8) (SetClock (r .n1)) _ n
-    (this-or (eqb k 9) (Event (r .n1)) _ n
-    (this-or (eqb k 10) (SetAlarmFilter (r .n1)) _ n
-    (this-or (eqb k 11) (SetErrorFilter (r .n1)) _ n
-    (this-or (eqb k 12) (ClearAlarms (r .n1)) _ n
-    (this-or (eqb k 13) (ClearErrors (r .n1)) _ n
-    (this-or (eqb k 14) (ClearLog (r .n1)) _ n
-    (this-or (eqb k 15) (Script (r .n1)) _ n
-    (this-or (eqb k 16) (SetGroups (r .n1) (r .n2) (r .n3) (r .n4) (r .n5)) _ (n, (n2, (n3, (n4, word (r .n5) h5))))
-    (this-or (eqb k 17) (SetProfile (r .n1) (signedOf (r .n2)) (r .n3) (r .n4)) _ (n, (signed-range (r .n2) h2, (n3, n4)))
+    this-or ParsedInRange (eqb k 1) z
+    (this-or ParsedInRange (eqb k 2) tt
+    (this-or ParsedInRange (eqb k 3) tt
+    (this-or ParsedInRange (eqb k 4) tt
+    (this-or ParsedInRange (eqb k 5) tt
+    (this-or ParsedInRange (eqb k 6) n
+    (this-or ParsedInRange (eqb k 7) (z, (n2, n3))
+    (this-or ParsedInRange (eqb k 8) n
+    (this-or ParsedInRange (eqb k 9) n
+    (this-or ParsedInRange (eqb k 10) n
+    (this-or ParsedInRange (eqb k 11) n
+    (this-or ParsedInRange (eqb k 12) n
+    (this-or ParsedInRange (eqb k 13) n
+    (this-or ParsedInRange (eqb k 14) n
+    (this-or ParsedInRange (eqb k 15) n
+    (this-or ParsedInRange (eqb k 16) (n, (n2, (n3, (n4, word (r .n5) h5))))
+    (this-or ParsedInRange (eqb k 17) (n, (signed-range (r .n2) h2, (n3, n4)))
     tt))))))))))))))))
 
 module _ (r : Command) (h : recordFormat .Holds r) where

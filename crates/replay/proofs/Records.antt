@@ -1,19 +1,20 @@
 -- The input's record: where its numbers stand, past the end too; and its format is lawful, so that what is written is read back, of a whole
 -- input too.
 use mathlib.Core.Path.{_≡_, refl, ap, _∙_}
-use mathlib.Core.List.{List, [], _∷_, append-nil, flatMap}
+use mathlib.Core.List.{List, _∷_}
 use Prim.Native.Nat.{ℕ, _+_, _-_, _/_, _≤_}
 use native.Mathlib.Nat.{add-assoc}
 use native.Mathlib.Omega.{arith}
 use lib.ListN.{length}
-use Rattle.codec.specs.Format.{Format, numAt, encs, decs, AllHold}
+use Rattle.codec.specs.Format.{numAt, encs, decs, AllHold}
 use Rattle.codec.specs.Lawful.{Lawful}
 use Rattle.codec.proofs.Numbers.{numAt-past}
-use Rattle.codec.proofs.Formats.{num-lawful, pair-lawful, via-lawful, length-encs, times-lawful}
+use Rattle.codec.proofs.Formats.{num-lawful, pair-lawful, via-lawful, length-encs}
 use Rattle.calls.specs.declared.Command.{Command}
 use Rattle.calls.specs.Calls.{commandOf}
 use Rattle.replay.specs.Input.{numbersOf, ofNumbers, recordFormat}
 use Rattle.replay.specs.Replay.{firstIn, laterIn}
+use Rattle.replay.proofs.Lists.{one-read, rest-read}
 
 pub record-lawful : Lawful recordFormat
 record-lawful =
@@ -40,17 +41,12 @@ module _ (s : List ℕ) (at : ℕ) where
       )
 
 -- the records of an input as they were written
-pub first-read : (r : Command) (rs : List Command) → AllHold recordFormat (r ∷ rs) → firstIn (encs recordFormat (r ∷ rs)) ≡ r
-unfolding flatMap
-first-read r rs h = record-lawful .read-written r (h .0) [] (encs recordFormat rs)
+module _ (r : Command) (rs : List Command) (h : AllHold recordFormat (r ∷ rs)) where
+  pub first-read : firstIn (encs recordFormat (r ∷ rs)) ≡ r
+  first-read = one-read record-lawful r rs h
 
-rest-read : {A : Type 0} {F : Format A} → Lawful F → (a : A) (l : List A) → AllHold F (a ∷ l) → decs F (length l) (encs F (a ∷ l)) (F .width) ≡ l
-unfolding flatMap
-rest-read {F = F} L a l h =
-    rw (append-nil, L .length-enc a (h .0)) at (times-lawful L (length l) .read-written l (refl, h .1) (F .enc a) [])
-
-pub later-read : (r : Command) (rs : List Command) → AllHold recordFormat (r ∷ rs) → laterIn (encs recordFormat (r ∷ rs)) ≡ rs
-later-read r rs h =
-    let s = encs recordFormat (r ∷ rs) in
-    let count : length s / 21 - 1 ≡ length rs = omega (arith, length-encs record-lawful (r ∷ rs) h) in
-    ap (λ (n : ℕ). decs recordFormat n s 21) count ∙ rest-read record-lawful r rs h
+  pub later-read : laterIn (encs recordFormat (r ∷ rs)) ≡ rs
+  later-read =
+      let s = encs recordFormat (r ∷ rs) in
+      let count : length s / 21 - 1 ≡ length rs = omega (arith, length-encs record-lawful (r ∷ rs) h) in
+      ap (λ (n : ℕ). decs recordFormat n s 21) count ∙ rest-read record-lawful r rs h

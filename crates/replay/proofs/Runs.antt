@@ -1,14 +1,12 @@
 -- A whole input: the meter after its last record holds the account of the input's history and is sound, so that the writer puts the account's
 -- page into the buffer.
 use mathlib.Core.Path.{_≡_, refl, sym, ap, _∙_}
-use mathlib.Core.Bool.{Bool, true, false, cond}
-use mathlib.Core.List.{List, [], _∷_, _++_}
-use Prim.Native.Nat.{ℕ, zero, suc, _+_, _-_, _*_, _/_, _%_, _<_, _≤_}
-use native.Mathlib.Omega.{arith}
+use mathlib.Core.Bool.{true, false}
+use mathlib.Core.List.{List, [], _∷_}
+use Prim.Native.Nat.{ℕ, _+_, _-_, _*_, _/_, _%_, _<_, _≤_}
 use lib.Dec.{eqb, leb, ltb}
-use lib.ListN.{length, drop}
+use lib.ListN.{length}
 use Rattle.base.specs.Tests.{every}
-use Rattle.codec.specs.Format.{allValid}
 use Rattle.codec.specs.Lawful.{Bytes}
 use Rattle.codec.proofs.Formats.{times-lawful}
 use Rattle.events.specs.Table.{EventRow, lawful}
@@ -35,26 +33,23 @@ use Rattle.page.specs.Layout.{size, pageOf, writeAnswer, written}
 use Rattle.page.specs.AccountPage.{accountPage}
 use Rattle.page.proofs.Printed.{list-written}
 use Rattle.replay.specs.declared.Replayed.{Replayed}
-use Rattle.replay.specs.declared.Replayed.the-variants.{Written, Refused}
+use Rattle.replay.specs.declared.Replayed.the-variants.{Written}
 use Rattle.replay.specs.Input.{recordFormat}
 use Rattle.replay.specs.Replay.{recordLength, firstIn, recordsFrom, laterIn, settingsIn, withCall, callsIn, startOf, nextOf, meterAfter, lastMeter}
 use Rattle.replay.specs.Replay.{accountIn, unlessRefused, endOf, replayAnswer, bufferAfter, replayed}
+use Rattle.replay.proofs.Lists.{decs-next, decs-end, all-valid}
 use Rattle.replay.proofs.Records.{record-lawful}
+use Rattle.replay.proofs.Answers.{writer-end, buffer-end}
 use Rattle.replay.proofs.Ranges.{ParsedInRange, settings-range, parsed-range, calls-range}
 
 -- ---- a loop over the records: the one at i, then those from i + 1 on, until there are no more
 
 module _ (s : List ℕ) (i : ℕ) where
   pub records-next : i < length s / 21 → recordsFrom i s ≡ recordFormat .dec s (i * 21) ∷ recordsFrom (i + 1) s
-  records-next h =
-      let one : length s / 21 - i ≡ suc (length s / 21 - (i + 1)) = omega arith in
-      let at : (i + 1) * 21 ≡ i * 21 + 21 = omega arith in
-      rw (one, at)
+  records-next h = decs-next recordFormat (length s / 21) s i h
 
   pub records-end : length s / 21 ≤ i → recordsFrom i s ≡ []
-  records-end h =
-      let none : length s / 21 - i ≡ 0 = omega arith in
-      rw none
+  records-end h = decs-end recordFormat (length s / 21) s i (i * 21) h
 
 -- ---- by an event table
 
@@ -114,11 +109,6 @@ module _ (rows : List EventRow) where
   unfolding recordAfter callsIn
   last-turn s i m h = rw (records-end s i h)
 
--- any bytes are those of records
-all-valid : (n : ℕ) (s : List ℕ) (at : ℕ) → allValid recordFormat n s at ≡ true
-all-valid zero s at = refl
-all-valid (suc n) s at = all-valid n s (at + recordLength)
-
 module _ (s : List ℕ) (bytes : Bytes s) (started : startOf (firstIn s) .answer ≡ answer.Accepted) where
   pub settings : Settings (settingsIn (firstIn s))
   settings =
@@ -127,7 +117,7 @@ module _ (s : List ℕ) (bytes : Bytes s) (started : startOf (firstIn s) .answer
   pub in-range : AllInRange (callsIn (laterIn s))
   in-range =
       let n = length s / recordLength - 1 in
-      calls-range (laterIn s) (times-lawful record-lawful n .held-read s recordLength bytes (all-valid n s recordLength) .1)
+      calls-range (laterIn s) (times-lawful record-lawful n .held-read s recordLength bytes (all-valid recordFormat (λ s at. refl) n s recordLength) .1)
 
   module _ (rows : List EventRow) (table : every lawful rows ≡ true) where
     from-fresh : lastMeter rows s ≡ meterAfter rows (recordOf (freshState (settingsIn (firstIn s)))) (laterIn s)
@@ -149,34 +139,26 @@ module _ (s : List ℕ) (bytes : Bytes s) (started : startOf (firstIn s) .answer
     -- ---- so the writer answers and writes what becomes of the input
 
     module _ (out : List ℕ) (whole : eqb (length s % recordLength) 0 ≡ true) where
-      writer-answer : unlessRefused (writeAnswer rows (lastMeter rows s) out) Written ≡ endOf s out
+      writer-answer : unlessRefused (writeAnswer rows (lastMeter rows s) out) Written ≡ endOf recordLength size s out
       unfolding writeAnswer
-      writer-answer = rw (last-sound, whole) (go (leb size (length out)))
-        where
-          go : (b : Bool) → unlessRefused (cond b answer.Accepted (answer.Refused 8)) Written ≡ cond b Written (Refused 8)
-          go true = refl
-          go false = refl
+      writer-answer = rw (last-sound, whole) (writer-end (leb size (length out)))
 
-      writer-page : written rows (lastMeter rows s) out ≡ bufferAfter (endOf s out) (accountPage (accountIn rows s)) out
+      writer-page : written rows (lastMeter rows s) out ≡ bufferAfter size (endOf recordLength size s out) (accountPage (accountIn rows s)) out
       unfolding written
-      writer-page = rw (last-sound, whole, holds-account, ← printed) (go (leb size (length out)) (accountPage (accountIn rows s)))
-        where
-          go : (b : Bool) (page : List ℕ) → cond b (page ++ drop size out) out ≡ bufferAfter (cond b Written (Refused 8)) page out
-          go true page = refl
-          go false page = refl
+      writer-page = rw (last-sound, whole, holds-account, ← printed) (buffer-end (leb size (length out)) size (accountPage (accountIn rows s)) out)
 
 -- ---- what becomes of an input, as the code comes to it
 
 -- the answer gives the bytes
 pub with-bytes : (rows : List EventRow) (s out : List ℕ) (a : Replayed) → replayAnswer s out ≡ a
-    → (a ≡ replayAnswer s out) × (bufferAfter a (accountPage (accountIn rows s)) out ≡ replayed rows s out)
+    → (a ≡ replayAnswer s out) × (bufferAfter size a (accountPage (accountIn rows s)) out ≡ replayed rows s out)
 unfolding replayed
 with-bytes rows s out a e = (sym e, rw e)
 
 -- the input begins with a whole record of kind 0, whose outcome is o
 pub record Begun (s out : List ℕ) (o : Outcome) : Type 0 where
   pub start : o ≡ startOf (firstIn s)
-  pub answer : replayAnswer s out ≡ unlessRefused (o .answer) (endOf s out)
+  pub answer : replayAnswer s out ≡ unlessRefused (o .answer) (endOf recordLength size s out)
 
 pub begun : (s out : List ℕ) (o : Outcome) → eqb (length s) 0 ≡ false → ltb (length s) recordLength ≡ false → eqb (firstIn s .kind) 0 ≡ true
     → o ≡ startOf (firstIn s) → Begun s out o
@@ -191,7 +173,7 @@ module _ (rows : List EventRow) (table : every lawful rows ≡ true) {s out : Li
   ended m a page run wrote =
       let started : startOf (firstIn s) .answer ≡ answer.Accepted = sym (ap (λ (o : Outcome). o .answer) (b .start)) ∙ accepted in
       let last : m ≡ lastMeter rows s = run ∙ ap (λ (o : Outcome). meterAfter rows (o .meter) (laterIn s)) (b .start) in
-      let end = with-bytes rows s out (endOf s out) (b .answer ∙ rw accepted) in (
+      let end = with-bytes rows s out (endOf recordLength size s out) (b .answer ∙ rw accepted) in (
         rw (wrote .0, last) (writer-answer s bytes started rows table out whole) ∙ end .0,
         wrote .1 ∙ rw last (writer-page s bytes started rows table out whole) ∙ end .1,
       )

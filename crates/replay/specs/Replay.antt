@@ -86,25 +86,25 @@ abbrev pub unlessRefused : Answer → Replayed → Replayed
 unlessRefused answer.Accepted r = r
 unlessRefused (answer.Refused n) r = Refused n
 
--- once fresh is accepted: 'a cut record .. writes `short` and ends'; 'writer | 8 | buffer under 558 bytes', now the page's length
-abbrev pub endOf : List ℕ → List ℕ → Replayed
-endOf s out = cond (eqb (length s % recordLength) 0) (cond (leb pageLength (length out)) Written (Refused 8)) Short
+-- once fresh is accepted, with records of w bytes and a page of n: 'a cut record .. writes `short` and ends'; 'writer | 8 | buffer under 558 bytes', now n
+abbrev pub endOf : ℕ → ℕ → List ℕ → List ℕ → Replayed
+endOf w n s out = cond (eqb (length s % w) 0) (cond (leb n (length out)) Written (Refused 8)) Short
 
 -- 'Empty input writes nothing'; 'a cut record, the first too, writes `short`'; 'kind 0 .., else one line `bad`'; 'A refused fresh ends the run'
 unfoldable pub replayAnswer : List ℕ → List ℕ → Replayed
 replayAnswer s out =
     cond (eqb (length s) 0) Empty
     (cond (ltb (length s) recordLength) Short
-    (cond (eqb (firstIn s .kind) 0) (unlessRefused (freshAnswer (settingsIn (firstIn s))) (endOf s out)) Bad))
+    (cond (eqb (firstIn s .kind) 0) (unlessRefused (freshAnswer (settingsIn (firstIn s))) (endOf recordLength pageLength s out)) Bad))
 
--- 'The writer leaves bytes past 558', now `pageLength`; whatever else becomes of an input leaves every byte
-abbrev pub bufferAfter : Replayed → List ℕ → List ℕ → List ℕ
-bufferAfter Written page out = page ++ drop pageLength out
-bufferAfter Empty page out = out
-bufferAfter Bad page out = out
-bufferAfter Short page out = out
-bufferAfter (Refused n) page out = out
+-- 'The writer leaves bytes past 558', now past n, the page's length; whatever else becomes of an input leaves every byte
+abbrev pub bufferAfter : ℕ → Replayed → List ℕ → List ℕ → List ℕ
+bufferAfter n Written page out = page ++ drop n out
+bufferAfter n Empty page out = out
+bufferAfter n Bad page out = out
+bufferAfter n Short page out = out
+bufferAfter n (Refused k) page out = out
 
 -- 'Each page holds its own account, byte for byte by the layout'
 unfoldable pub replayed : List EventRow → List ℕ → List ℕ → List ℕ
-replayed rows s out = bufferAfter (replayAnswer s out) (accountPage (accountIn rows s)) out
+replayed rows s out = bufferAfter pageLength (replayAnswer s out) (accountPage (accountIn rows s)) out

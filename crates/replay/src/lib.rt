@@ -3,6 +3,7 @@
 ghost use mathlib.Core.Path.{_≡_};
 ghost use Rattle.tables.specs.Index.{tableIn};
 ghost use Rattle.replay.specs.Replay.{replayAnswer, replayed};
+ghost use Rattle.replay.specs.Numbers.{replayNumber};
 ghost use Rattle.replay.specs.Laws.{Laws};
 ghost use Rattle.replay.specs.Examples.{Examples};
 ghost use Rattle.history.specs.Laws.{Laws as AccountLaws};
@@ -43,6 +44,21 @@ pub enum Replayed {
     Short,
     // Fresh refused with this number, or the page's writer did.
     Refused(u8),
+}
+
+impl Replayed {
+    // 0, the number of a refusal, or one above every refusal's for what document 01 prints as words.
+    pub fn number(self) -> u32
+        ensures { λ r. ⌜ r ≡ replayNumber self ⌝ }
+    {
+        match self {
+            Replayed::Written => 0,
+            Replayed::Empty => 100,
+            Replayed::Bad => 101,
+            Replayed::Short => 102,
+            Replayed::Refused(number) => number as u32,
+        }
+    }
 }
 
 // Runs a whole input with an event table, and writes the page of its history into the first 599 bytes

@@ -1,1 +1,3 @@
 pub mod Limiters
+pub mod Arrays
+pub mod Records

@@ -85,7 +85,7 @@ returns-2 c =
     let read = c .before .before .before in
     let parsed = reading read in
     call-refused _ _ _ _ (parsed .before .before .read-kind .ensures .0) _ (parsed .parsed .given .1) _ (read .read-page .ensures .0) _ _
-    (c .before .answer .given .1) (λ x. refl)
+    (c .before .answer .given .1) refl
 
 returns-3 : tie.Need-returns-3
 returns-3 c =

@@ -1,7 +1,7 @@
 -- `pillar_replay` meets its contract: the number is that of `replay`'s answer, and the bytes are its own, by the table of the bytes.
 use mathlib.Core.Path.{_∙_, ap}
 use borrow.Author.Needs.{needs}
-use Rattle.pillar.specs.Interface.{replayNumber}
+use Rattle.replay.specs.Numbers.{replayNumber}
 use Rattle.pillar.proofs.pillar_replay.Statement.{statement}
 use Rattle.pillar.proofs.pillar_replay.Tie as tie
 
@@ -9,7 +9,7 @@ returns : tie.Need-returns
 returns c =
     let replay = c .before .before .before in
     let made = rw (replay .before .before .before .index-of .ensures) at (replay .replay .ensures .0) in
-    (c .replayed-number .ensures ∙ ap replayNumber (made .0), made .1)
+    (c .number .ensures ∙ ap replayNumber (made .0), made .1)
 
 pub pillar-replay-spec : {M : Type 1} → statement M
 pillar-replay-spec =

@@ -3,9 +3,10 @@ use lib.ListN.{length}
 use borrow.Author.Needs.{needs}
 use Rattle.tables.specs.Index.{tableIn}
 use Rattle.logs.specs.Layout.{arrays}
+use Rattle.status.proofs.Records.{part-length}
 use Rattle.steps.specs.Step.{resultOf}
 use Rattle.meter.specs.State.{withLogs}
-use Rattle.meter.proofs.Tail.{lines-room, part-length, finished}
+use Rattle.meter.proofs.Tail.{lines-room, finished}
 use Rattle.meter.proofs.parts.carry_out.Statement.{statement}
 use Rattle.meter.proofs.parts.carry_out.Tie as tie
 
