@@ -11,13 +11,16 @@
  * once on pages, letters and answer buffers of their own; they may share a table.
  *
  * For a meter the archive has six functions: pillar_table, pillar_fresh,
- * pillar_call, pillar_replay, pillar_check and pillar_request; for the harbour's
- * office four, at the end of this header. Each answers 0, or the number of a
- * refusal. On a refusal every byte of the page is as it was. Each of the six is
- * proved to answer and to write what crates/pillar/specs/Interface.antt says (of
+ * pillar_call, pillar_replay, pillar_check and pillar_request; for the three-phase
+ * meter, which has a page of its own, four ('The three-phase meter' below); for the
+ * harbour's office four, at the end of this header. Each answers 0, or the number
+ * of a refusal. On a refusal every byte of the page is as it was. Each of the six
+ * is proved to answer and to write what crates/pillar/specs/Interface.antt says (of
  * pillar_table, crates/tables/specs/Bytes.antt; of pillar_replay,
  * crates/replay/specs/Replay.antt; of pillar_request,
- * crates/pillar/specs/Request.antt), for every length and every number. The rest
+ * crates/pillar/specs/Request.antt), and each of the four for the three-phase meter
+ * what crates/phases_interface/specs/Interface.antt says (of three_phase_replay,
+ * crates/phases_replay/specs/Replay.antt), for every length and every number. The rest
  * of this header, names, offsets and inline functions, is not proved: the gate
  * compares it with what the archive writes and answers (tests/header).
  *
@@ -49,7 +52,7 @@ extern "C" {
  * length or its pairs.
  */
 #define PILLAR_VERSION_MAJOR 5
-#define PILLAR_VERSION_MINOR 4
+#define PILLAR_VERSION_MINOR 5
 #define PILLAR_VERSION_PATCH 0
 #define PILLAR_VERSION \
     (PILLAR_VERSION_MAJOR * 10000 + PILLAR_VERSION_MINOR * 100 + PILLAR_VERSION_PATCH)
@@ -227,12 +230,12 @@ enum pillar_answer {
     PILLAR_REFUSED_DURATION = 5,       /* fresh, set limiter: not 1 to 86400 */
     PILLAR_REFUSED_EVENT_CODE = 6,     /* report event: not of the table */
     PILLAR_REFUSED_LOG = 7,            /* clear log: not 1 to 3 */
-    PILLAR_REFUSED_BUFFER = 8,         /* writer: under PILLAR_PAGE_SIZE bytes */
-    PILLAR_REFUSED_PAGE_LENGTH = 9,    /* reader: not PILLAR_PAGE_SIZE bytes */
+    PILLAR_REFUSED_BUFFER = 8,         /* writer: under the meter's page size */
+    PILLAR_REFUSED_PAGE_LENGTH = 9,    /* reader: not the meter's page size */
     PILLAR_REFUSED_PAGE_PAIRS = 10,    /* reader: a pair of the directory differs */
     PILLAR_REFUSED_PAGE_UNSOUND = 11,  /* reader: what it holds would not be sound under the table */
     PILLAR_REFUSED_METER_UNSOUND = 12, /* never from C: the reader stops it with 11 */
-    PILLAR_REFUSED_KIND = 13,          /* call: not 1 to 17 */
+    PILLAR_REFUSED_KIND = 13,          /* call: not 1 to 17, of a three-phase meter not 1 to 15 */
     PILLAR_REFUSED_GROUP_COUNT = 14,   /* set groups: above 8 */
     PILLAR_REFUSED_GROUP_ID = 15,      /* set profile: the id is not one of the groups' */
     PILLAR_REFUSED_PROFILE = 16,       /* set profile: threshold negative, or duration not 1 to 604800 */
@@ -739,7 +742,7 @@ static inline uint32_t pillar_get_under_duration(const uint8_t *page)
     return pillar_get_number(page, PILLAR_OFFSET_UNDER_DURATION);
 }
 
-/* Whether the limiter has fired over, and not under since. */
+/* Whether the limiter has fired over, and not under since, nor was armed again by the key. */
 static inline bool pillar_get_exceeded(const uint8_t *page)
 {
     return page[PILLAR_OFFSET_EXCEEDED] != 0;
@@ -870,6 +873,410 @@ static inline uint16_t pillar_get_group_id(const uint8_t *page, uint32_t place)
     if (place >= PILLAR_GROUPS)
         return 0;
     return pillar_get_id(page, PILLAR_OFFSET_GROUP_ID(place));
+}
+
+/* ---- The three-phase meter -----------------------------------------------
+ *
+ * A meter with three powers a second (document 02, A13). Its limiter has four
+ * lines, the phases L1, L2 and L3 and their exact sum, in this order. Each has a
+ * threshold, Exceeded and Run of its own; over and under duration are shared. A
+ * sample judges every line by its own threshold, then logs, line by line,
+ * PILLAR_LOGGED_LIMITER_THRESHOLD_EXCEEDED or .._THRESHOLD_OK for each that fires.
+ * Only then the local disconnect is tried, once, if a line has fired over; the
+ * local reconnect, once, if a line has fired under and no line is exceeded. The
+ * key, if it connects, ends Exceeded on all four lines and sets each Run 0.
+ *
+ * Switch, clock, registers, logs and event table are as above, and so are the
+ * numbers by name; with the table do as above, with three_phase_check in the
+ * place of pillar_check. There is no emergency profile, and there are no groups:
+ * PILLAR_KIND_SET_GROUPS and PILLAR_KIND_SET_PROFILE are PILLAR_REFUSED_KIND.
+ * Requests as DLMS bytes are for the other meter alone.
+ *
+ * A page of one meter is never one of the other's: pillar_call, pillar_check and
+ * pillar_request refuse THREE_PHASE_PAGE_SIZE bytes, three_phase_call and
+ * three_phase_check PILLAR_PAGE_SIZE bytes, with PILLAR_REFUSED_PAGE_LENGTH; and
+ * either refuses the other's bytes under its own length with .._PAGE_PAIRS.
+ */
+
+/* What the limiter watches: each phase and their sum. */
+enum three_phase_monitored_value {
+    THREE_PHASE_L1 = 0,
+    THREE_PHASE_L2 = 1,
+    THREE_PHASE_L3 = 2,
+    THREE_PHASE_SUM = 3
+};
+
+/*
+ * The page, 586 bytes: a directory, then the areas, as above, but without the
+ * ninth; the limiter's is over duration, under duration, then threshold, Exceeded
+ * and Run of each of them. Every field has the length that it has above.
+ */
+#define THREE_PHASE_AREAS 8
+#define THREE_PHASE_MONITORED_VALUES 4
+
+#define THREE_PHASE_DIRECTORY_SIZE (THREE_PHASE_AREAS * PILLAR_PAIR_SIZE)
+
+#define THREE_PHASE_LENGTH_MONITORED_VALUE \
+    (PILLAR_LENGTH_THRESHOLD + PILLAR_LENGTH_EXCEEDED + PILLAR_LENGTH_RUN)
+#define THREE_PHASE_LENGTH_LIMITER \
+    (PILLAR_LENGTH_OVER_DURATION + PILLAR_LENGTH_UNDER_DURATION \
+     + THREE_PHASE_MONITORED_VALUES * THREE_PHASE_LENGTH_MONITORED_VALUE)
+
+#define THREE_PHASE_OFFSET_CONTROL THREE_PHASE_DIRECTORY_SIZE
+#define THREE_PHASE_OFFSET_CONTROL_MODE THREE_PHASE_OFFSET_CONTROL
+#define THREE_PHASE_OFFSET_CONTROL_STATE \
+    (THREE_PHASE_OFFSET_CONTROL_MODE + PILLAR_LENGTH_CONTROL_MODE)
+#define THREE_PHASE_OFFSET_OPENINGS \
+    (THREE_PHASE_OFFSET_CONTROL_STATE + PILLAR_LENGTH_CONTROL_STATE)
+
+/* `value` is one of enum three_phase_monitored_value. */
+#define THREE_PHASE_OFFSET_LIMITER (THREE_PHASE_OFFSET_CONTROL + PILLAR_LENGTH_CONTROL)
+#define THREE_PHASE_OFFSET_OVER_DURATION THREE_PHASE_OFFSET_LIMITER
+#define THREE_PHASE_OFFSET_UNDER_DURATION \
+    (THREE_PHASE_OFFSET_OVER_DURATION + PILLAR_LENGTH_OVER_DURATION)
+#define THREE_PHASE_OFFSET_MONITORED_VALUES \
+    (THREE_PHASE_OFFSET_UNDER_DURATION + PILLAR_LENGTH_UNDER_DURATION)
+#define THREE_PHASE_OFFSET_THRESHOLD(value) \
+    (THREE_PHASE_OFFSET_MONITORED_VALUES + (value) * THREE_PHASE_LENGTH_MONITORED_VALUE)
+#define THREE_PHASE_OFFSET_EXCEEDED(value) \
+    (THREE_PHASE_OFFSET_THRESHOLD(value) + PILLAR_LENGTH_THRESHOLD)
+#define THREE_PHASE_OFFSET_RUN(value) (THREE_PHASE_OFFSET_EXCEEDED(value) + PILLAR_LENGTH_EXCEEDED)
+
+#define THREE_PHASE_OFFSET_CLOCK (THREE_PHASE_OFFSET_LIMITER + THREE_PHASE_LENGTH_LIMITER)
+
+#define THREE_PHASE_OFFSET_ALARMS (THREE_PHASE_OFFSET_CLOCK + PILLAR_LENGTH_CLOCK)
+#define THREE_PHASE_OFFSET_ALARM_REGISTER THREE_PHASE_OFFSET_ALARMS
+#define THREE_PHASE_OFFSET_ALARM_FILTER \
+    (THREE_PHASE_OFFSET_ALARM_REGISTER + PILLAR_LENGTH_ALARM_REGISTER)
+#define THREE_PHASE_OFFSET_ALARM_COUNT \
+    (THREE_PHASE_OFFSET_ALARM_FILTER + PILLAR_LENGTH_ALARM_FILTER)
+
+#define THREE_PHASE_OFFSET_ERRORS (THREE_PHASE_OFFSET_ALARMS + PILLAR_LENGTH_ALARMS)
+#define THREE_PHASE_OFFSET_ERROR_REGISTER THREE_PHASE_OFFSET_ERRORS
+#define THREE_PHASE_OFFSET_ERROR_FILTER \
+    (THREE_PHASE_OFFSET_ERROR_REGISTER + PILLAR_LENGTH_ERROR_REGISTER)
+
+/* The logs, each an area: `log` is one of enum pillar_log, `line` one of its lines, from 0. */
+#define THREE_PHASE_OFFSET_LOGS (THREE_PHASE_OFFSET_ERRORS + PILLAR_LENGTH_ERRORS)
+#define THREE_PHASE_OFFSET_LOG(log) (THREE_PHASE_OFFSET_LOGS + ((log) - 1) * PILLAR_LENGTH_LOG)
+#define THREE_PHASE_OFFSET_LOG_COUNT(log) THREE_PHASE_OFFSET_LOG(log)
+#define THREE_PHASE_OFFSET_LINE_CLOCK(log, line) \
+    (THREE_PHASE_OFFSET_LOG_COUNT(log) + PILLAR_LENGTH_LOG_COUNT + (line) * PILLAR_LINE_SIZE)
+#define THREE_PHASE_OFFSET_LINE_CODE(log, line) \
+    (THREE_PHASE_OFFSET_LINE_CLOCK(log, line) + PILLAR_LENGTH_LINE_CLOCK)
+
+/* Bytes of a page, and of a record in the list that three_phase_replay takes. */
+#define THREE_PHASE_PAGE_SIZE (THREE_PHASE_OFFSET_LOGS + PILLAR_LOGS * PILLAR_LENGTH_LOG)
+#define THREE_PHASE_RECORD_SIZE 33
+
+/*
+ * Writes the page of a fresh meter into the first THREE_PHASE_PAGE_SIZE bytes;
+ * bytes past them stay. The four numbers behind the control mode are thresholds,
+ * in watts, line by line. Answers PILLAR_REFUSED_CONTROL_MODE, .._THRESHOLD (of
+ * any line), .._DURATION, then .._BUFFER.
+ */
+uint32_t three_phase_fresh(uint8_t *page, size_t length, uint32_t control_mode,
+                           int32_t l1, int32_t l2, int32_t l3, int32_t sum,
+                           uint32_t over_duration, uint32_t under_duration,
+                           uint32_t clock);
+
+/*
+ * One of the fifteen calls on the meter of a page, under the page's table; the
+ * page is then that of the meter after the call. `kind` is one of enum
+ * pillar_kind, but neither PILLAR_KIND_FRESH nor above PILLAR_KIND_EXECUTE_SCRIPT:
+ * any other is PILLAR_REFUSED_KIND, whatever the page holds. Then it answers
+ * PILLAR_REFUSED_PAGE_LENGTH, .._PAGE_PAIRS, .._PAGE_UNSOUND, then the refusals of
+ * the call. The numbers are those of the kind, but PILLAR_KIND_SAMPLE has three
+ * powers, PILLAR_KIND_SET_LIMITER four thresholds, over and under duration. Each
+ * kind has an inline function below.
+ *
+ * Into *letter it stores the letter of the move that it made, as pillar_call does:
+ * always.
+ */
+uint32_t three_phase_call(uint8_t *page, size_t length, const uint8_t *table,
+                          size_t table_length, uint32_t kind, uint32_t n1,
+                          uint32_t n2, uint32_t n3, uint32_t n4, uint32_t n5,
+                          uint32_t n6, uint8_t *letter);
+
+/*
+ * Runs a whole list of records of THREE_PHASE_RECORD_SIZE bytes, all of it and the
+ * page that it leaves under one table. A record, 33 bytes, is the kind, then eight
+ * big-endian numbers of 32 bits; those that its kind does not take are ignored.
+ * The first is PILLAR_KIND_FRESH (control mode, four thresholds, over duration,
+ * under duration, clock); the others are calls, refused ones among them. Writes
+ * the page of the list's history into the first THREE_PHASE_PAGE_SIZE bytes of
+ * `page`; bytes past them stay. Answers PILLAR_REFUSED_LIST_EMPTY, .._LIST_SHORT
+ * (the first record), .._LIST_BAD, the refusals of fresh, .._LIST_SHORT (a later
+ * record), then .._BUFFER. The page must overlap neither the records nor the
+ * table.
+ */
+uint32_t three_phase_replay(const uint8_t *records, size_t records_length,
+                            const uint8_t *table, size_t table_length,
+                            uint8_t *page, size_t page_length);
+
+/*
+ * Whether three_phase_call can read a page under a table:
+ * PILLAR_REFUSED_PAGE_LENGTH, .._PAGE_PAIRS, .._PAGE_UNSOUND.
+ */
+uint32_t three_phase_check(const uint8_t *page, size_t length, const uint8_t *table,
+                           size_t table_length);
+
+/*
+ * The fifteen calls by name: each is three_phase_call with its kind, and takes
+ * numbers and `letter` as the function of the other meter does.
+ */
+
+/* One second's powers in watts; export is negative. Their sum is never cut. */
+static inline uint32_t three_phase_sample(uint8_t *page, size_t length, const uint8_t *table,
+                                          size_t table_length, int32_t l1, int32_t l2, int32_t l3,
+                                          uint8_t *letter)
+{
+    return three_phase_call(page, length, table, table_length, PILLAR_KIND_SAMPLE, (uint32_t)l1,
+                            (uint32_t)l2, (uint32_t)l3, 0, 0, 0, letter);
+}
+
+/* The network centre's requests. */
+static inline uint32_t three_phase_remote_disconnect(uint8_t *page, size_t length,
+                                                     const uint8_t *table, size_t table_length,
+                                                     uint8_t *letter)
+{
+    return three_phase_call(page, length, table, table_length, PILLAR_KIND_REMOTE_DISCONNECT, 0, 0,
+                            0, 0, 0, 0, letter);
+}
+
+static inline uint32_t three_phase_remote_reconnect(uint8_t *page, size_t length,
+                                                    const uint8_t *table, size_t table_length,
+                                                    uint8_t *letter)
+{
+    return three_phase_call(page, length, table, table_length, PILLAR_KIND_REMOTE_RECONNECT, 0, 0,
+                            0, 0, 0, 0, letter);
+}
+
+/* The holder's, by the key. */
+static inline uint32_t three_phase_manual_disconnect(uint8_t *page, size_t length,
+                                                     const uint8_t *table, size_t table_length,
+                                                     uint8_t *letter)
+{
+    return three_phase_call(page, length, table, table_length, PILLAR_KIND_MANUAL_DISCONNECT, 0, 0,
+                            0, 0, 0, 0, letter);
+}
+
+static inline uint32_t three_phase_manual_reconnect(uint8_t *page, size_t length,
+                                                    const uint8_t *table, size_t table_length,
+                                                    uint8_t *letter)
+{
+    return three_phase_call(page, length, table, table_length, PILLAR_KIND_MANUAL_RECONNECT, 0, 0,
+                            0, 0, 0, 0, letter);
+}
+
+static inline uint32_t three_phase_set_control_mode(uint8_t *page, size_t length,
+                                                    const uint8_t *table, size_t table_length,
+                                                    uint32_t control_mode)
+{
+    uint8_t none;
+    return three_phase_call(page, length, table, table_length, PILLAR_KIND_SET_CONTROL_MODE,
+                            control_mode, 0, 0, 0, 0, 0, &none);
+}
+
+/*
+ * The thresholds in watts, 0 or more, line by line; both durations in samples, 1
+ * to 86400. Each Run is then 0, every Exceeded stays, and one line is logged.
+ */
+static inline uint32_t three_phase_set_limiter(uint8_t *page, size_t length, const uint8_t *table,
+                                               size_t table_length, int32_t l1, int32_t l2,
+                                               int32_t l3, int32_t sum, uint32_t over_duration,
+                                               uint32_t under_duration)
+{
+    uint8_t none;
+    return three_phase_call(page, length, table, table_length, PILLAR_KIND_SET_LIMITER,
+                            (uint32_t)l1, (uint32_t)l2, (uint32_t)l3, (uint32_t)sum, over_duration,
+                            under_duration, &none);
+}
+
+static inline uint32_t three_phase_set_clock(uint8_t *page, size_t length, const uint8_t *table,
+                                             size_t table_length, uint32_t seconds)
+{
+    uint8_t none;
+    return three_phase_call(page, length, table, table_length, PILLAR_KIND_SET_CLOCK, seconds, 0, 0,
+                            0, 0, 0, &none);
+}
+
+/* A code of the table: with the built-in one, of enum pillar_event. */
+static inline uint32_t three_phase_report_event(uint8_t *page, size_t length, const uint8_t *table,
+                                                size_t table_length, uint32_t code)
+{
+    uint8_t none;
+    return three_phase_call(page, length, table, table_length, PILLAR_KIND_REPORT_EVENT, code, 0, 0,
+                            0, 0, 0, &none);
+}
+
+/* A one hides its bit from later events; bits that are set stay set. */
+static inline uint32_t three_phase_set_alarm_filter(uint8_t *page, size_t length,
+                                                    const uint8_t *table, size_t table_length,
+                                                    uint32_t filter)
+{
+    uint8_t none;
+    return three_phase_call(page, length, table, table_length, PILLAR_KIND_SET_ALARM_FILTER, filter,
+                            0, 0, 0, 0, 0, &none);
+}
+
+static inline uint32_t three_phase_set_error_filter(uint8_t *page, size_t length,
+                                                    const uint8_t *table, size_t table_length,
+                                                    uint32_t filter)
+{
+    uint8_t none;
+    return three_phase_call(page, length, table, table_length, PILLAR_KIND_SET_ERROR_FILTER, filter,
+                            0, 0, 0, 0, 0, &none);
+}
+
+/* The ones of the mask are cleared. */
+static inline uint32_t three_phase_clear_alarms(uint8_t *page, size_t length, const uint8_t *table,
+                                                size_t table_length, uint32_t mask)
+{
+    uint8_t none;
+    return three_phase_call(page, length, table, table_length, PILLAR_KIND_CLEAR_ALARMS, mask, 0, 0,
+                            0, 0, 0, &none);
+}
+
+static inline uint32_t three_phase_clear_errors(uint8_t *page, size_t length, const uint8_t *table,
+                                                size_t table_length, uint32_t mask)
+{
+    uint8_t none;
+    return three_phase_call(page, length, table, table_length, PILLAR_KIND_CLEAR_ERRORS, mask, 0, 0,
+                            0, 0, 0, &none);
+}
+
+/* The log then holds one line, PILLAR_LOGGED_EVENT_LOG_CLEARED. */
+static inline uint32_t three_phase_clear_log(uint8_t *page, size_t length, const uint8_t *table,
+                                             size_t table_length, uint32_t log)
+{
+    uint8_t none;
+    return three_phase_call(page, length, table, table_length, PILLAR_KIND_CLEAR_LOG, log, 0, 0, 0,
+                            0, 0, &none);
+}
+
+static inline uint32_t three_phase_execute_script(uint8_t *page, size_t length,
+                                                  const uint8_t *table, size_t table_length,
+                                                  uint32_t script, uint8_t *letter)
+{
+    return three_phase_call(page, length, table, table_length, PILLAR_KIND_EXECUTE_SCRIPT, script,
+                            0, 0, 0, 0, 0, letter);
+}
+
+/*
+ * Reading off a page: each takes THREE_PHASE_PAGE_SIZE bytes and does not test
+ * them; three_phase_check does.
+ */
+
+/* One of enum pillar_control_mode. */
+static inline uint8_t three_phase_get_control_mode(const uint8_t *page)
+{
+    return page[THREE_PHASE_OFFSET_CONTROL_MODE];
+}
+
+/* One of enum pillar_control_state. */
+static inline uint8_t three_phase_get_control_state(const uint8_t *page)
+{
+    return page[THREE_PHASE_OFFSET_CONTROL_STATE];
+}
+
+static inline bool three_phase_supply_is_on(const uint8_t *page)
+{
+    return three_phase_get_control_state(page) == PILLAR_CONTROL_STATE_CONNECTED;
+}
+
+/* How often the switch has left the state Connected, held at 4294967295. */
+static inline uint32_t three_phase_get_openings(const uint8_t *page)
+{
+    return pillar_get_number(page, THREE_PHASE_OFFSET_OPENINGS);
+}
+
+/* Over and under duration of every line, in samples. */
+static inline uint32_t three_phase_get_over_duration(const uint8_t *page)
+{
+    return pillar_get_number(page, THREE_PHASE_OFFSET_OVER_DURATION);
+}
+
+static inline uint32_t three_phase_get_under_duration(const uint8_t *page)
+{
+    return pillar_get_number(page, THREE_PHASE_OFFSET_UNDER_DURATION);
+}
+
+/* Of a monitored value, in watts; 0 for a number not of enum three_phase_monitored_value. */
+static inline int32_t three_phase_get_threshold(const uint8_t *page, uint32_t value)
+{
+    if (value >= THREE_PHASE_MONITORED_VALUES)
+        return 0;
+    return (int32_t)pillar_get_number(page, THREE_PHASE_OFFSET_THRESHOLD(value));
+}
+
+/* Whether a monitored value has fired over, and not under since, nor was armed again by
+   the key; false where there is no such value. */
+static inline bool three_phase_get_exceeded(const uint8_t *page, uint32_t value)
+{
+    return value < THREE_PHASE_MONITORED_VALUES && page[THREE_PHASE_OFFSET_EXCEEDED(value)] != 0;
+}
+
+/* The latest samples in a row that count towards its next firing; 0 as above. */
+static inline uint32_t three_phase_get_run(const uint8_t *page, uint32_t value)
+{
+    if (value >= THREE_PHASE_MONITORED_VALUES)
+        return 0;
+    return pillar_get_number(page, THREE_PHASE_OFFSET_RUN(value));
+}
+
+/* In seconds, held at 4294967295. */
+static inline uint32_t three_phase_get_clock(const uint8_t *page)
+{
+    return pillar_get_number(page, THREE_PHASE_OFFSET_CLOCK);
+}
+
+/* PILLAR_ALARM_.. bits. */
+static inline uint32_t three_phase_get_alarm_register(const uint8_t *page)
+{
+    return pillar_get_number(page, THREE_PHASE_OFFSET_ALARM_REGISTER);
+}
+
+static inline uint32_t three_phase_get_alarm_filter(const uint8_t *page)
+{
+    return pillar_get_number(page, THREE_PHASE_OFFSET_ALARM_FILTER);
+}
+
+/* How many alarms stand, 0 to 32, as pillar_get_alarm_count. */
+static inline uint8_t three_phase_get_alarm_count(const uint8_t *page)
+{
+    return page[THREE_PHASE_OFFSET_ALARM_COUNT];
+}
+
+/* PILLAR_ERROR_.. bits. */
+static inline uint32_t three_phase_get_error_register(const uint8_t *page)
+{
+    return pillar_get_number(page, THREE_PHASE_OFFSET_ERROR_REGISTER);
+}
+
+static inline uint32_t three_phase_get_error_filter(const uint8_t *page)
+{
+    return pillar_get_number(page, THREE_PHASE_OFFSET_ERROR_FILTER);
+}
+
+/* The lines that a log holds; 0 for a number that is not of enum pillar_log. */
+static inline uint8_t three_phase_get_log_count(const uint8_t *page, uint32_t log)
+{
+    if (log - 1 >= PILLAR_LOGS)
+        return 0;
+    return page[THREE_PHASE_OFFSET_LOG_COUNT(log)];
+}
+
+/* Line 0 is the oldest. Clock 0 and code 0 past the count, and where there is no such log. */
+static inline struct pillar_line three_phase_get_log_line(const uint8_t *page, uint32_t log,
+                                                          uint32_t line)
+{
+    struct pillar_line found = {0, 0};
+    if (log - 1 < PILLAR_LOGS && line < PILLAR_LINES_PER_LOG) {
+        found.clock = pillar_get_number(page, THREE_PHASE_OFFSET_LINE_CLOCK(log, line));
+        found.code = page[THREE_PHASE_OFFSET_LINE_CODE(log, line)];
+    }
+    return found;
 }
 
 /* ---- Berths, energy and tariff -------------------------------------------

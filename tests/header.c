@@ -92,19 +92,23 @@ static const struct area areas[] = {
 };
 
 /* The directory of a page that the core has written; the areas fill the page behind it. */
-static void directory(void)
+static void areas_fill(const struct area *list, size_t count, uint32_t end, uint32_t size)
 {
-    uint32_t end = PILLAR_DIRECTORY_SIZE;
-    fresh(0);
-    SAME(PILLAR_AREAS, (uint32_t)COUNT_OF(areas));
-    for (uint32_t i = 0; i < COUNT_OF(areas); i++) {
+    for (size_t i = 0; i < count; i++) {
         uint32_t pair = pillar_get_number(page, i * PILLAR_PAIR_SIZE);
-        same(__LINE__, areas[i].name, areas[i].offset, pair >> 16);
-        same(__LINE__, areas[i].name, areas[i].length, pair & 0xffff);
+        same(__LINE__, list[i].name, list[i].offset, pair >> 16);
+        same(__LINE__, list[i].name, list[i].length, pair & 0xffff);
         SAME(end, pair >> 16);
         end += pair & 0xffff;
     }
-    SAME(PILLAR_PAGE_SIZE, end);
+    SAME(size, end);
+}
+
+static void directory(void)
+{
+    fresh(0);
+    SAME(PILLAR_AREAS, (uint32_t)COUNT_OF(areas));
+    areas_fill(areas, COUNT_OF(areas), PILLAR_DIRECTORY_SIZE, PILLAR_PAGE_SIZE);
 }
 
 /* A field holds the value that the core has put there, and its function reads it. */
@@ -119,10 +123,15 @@ static void field(int line, const char *name, uint32_t offset, uint32_t length, 
 
 #define FIELD(name, value, read) field(__LINE__, #name, PILLAR_OFFSET_##name, PILLAR_LENGTH_##name, value, read)
 
-static void put(uint32_t offset, uint32_t number)
+static void put_number(uint8_t *bytes, uint32_t number)
 {
     for (uint32_t i = 0; i < 4; i++)
-        page[offset + i] = (uint8_t)(number >> (24 - 8 * i));
+        bytes[i] = (uint8_t)(number >> (24 - 8 * i));
+}
+
+static void put(uint32_t offset, uint32_t number)
+{
+    put_number(page + offset, number);
 }
 
 /* Every field with bytes of its own. */
@@ -204,13 +213,16 @@ static struct pillar_line line_owed(uint32_t log, uint32_t n)
     return owed;
 }
 
-/* A log after so many lines: the newest, and nothing past them. */
-static void log_holds(uint32_t log, uint32_t lines)
+typedef uint8_t get_count(const uint8_t *page, uint32_t log);
+typedef struct pillar_line get_line(const uint8_t *page, uint32_t log, uint32_t line);
+
+/* A log after so many lines, as its functions read it: the newest, and nothing past them. */
+static void log_holds(get_count *count_of, get_line *line_of, uint32_t log, uint32_t lines)
 {
     uint32_t held = lines < PILLAR_LINES_PER_LOG ? lines : PILLAR_LINES_PER_LOG;
-    SAME(pillar_get_log_count(page, log), held);
+    SAME(count_of(page, log), held);
     for (uint32_t i = 0; i < PILLAR_LINES_PER_LOG + 2; i++) {
-        struct pillar_line found = pillar_get_log_line(page, log, i);
+        struct pillar_line found = line_of(page, log, i);
         struct pillar_line owed = {0, 0};
         if (i < held)
             owed = line_owed(log, lines - held + i);
@@ -226,11 +238,11 @@ static void logs(void)
         ACCEPTED(pillar_set_clock(METER, clock_after(settings)));
         ACCEPTED(pillar_report_event(METER, line_owed(PILLAR_LOG_FRAUD, settings - 1).code));
         ACCEPTED(pillar_set_limiter(METER, 0, 1, 1));
-        log_holds(PILLAR_LOG_STANDARD, 2 * settings);
-        log_holds(PILLAR_LOG_FRAUD, settings);
-        log_holds(PILLAR_LOG_DISCONNECT, settings);
-        log_holds(0, 0);
-        log_holds(PILLAR_LOGS + 1, 0);
+        log_holds(pillar_get_log_count, pillar_get_log_line, PILLAR_LOG_STANDARD, 2 * settings);
+        log_holds(pillar_get_log_count, pillar_get_log_line, PILLAR_LOG_FRAUD, settings);
+        log_holds(pillar_get_log_count, pillar_get_log_line, PILLAR_LOG_DISCONNECT, settings);
+        log_holds(pillar_get_log_count, pillar_get_log_line, 0, 0);
+        log_holds(pillar_get_log_count, pillar_get_log_line, PILLAR_LOGS + 1, 0);
     }
 
     /* Each log is cleared by its number, and no other number is one. */
@@ -1075,6 +1087,538 @@ static void refusals(void)
     SAME(PILLAR_REFUSED_PAGE_UNSOUND, pillar_check(METER));
 }
 
+/* ---- The three-phase meter ----------------------------------------------- */
+
+#define PHASES page, THREE_PHASE_PAGE_SIZE
+#define PHASES_METER PHASES, BUILT_IN
+#define PHASES_OWN PHASES, table, OWN_LINES * PILLAR_TABLE_LINE_SIZE
+
+/* A fresh meter: thresholds of its own for each line, durations of one sample, clock 0. */
+static void phases_fresh(uint32_t control_mode)
+{
+    ACCEPTED(three_phase_fresh(PHASES, control_mode, 10, 20, 30, 40, 1, 1, 0));
+}
+
+/* The shortest buffer that is written, the one length that is read, the first record that is whole. */
+static void phases_sizes(void)
+{
+    static const uint8_t zeros[ROOM] = {0};
+    at = 0;
+    while (at < ROOM && three_phase_fresh(page, at, 0, 0, 0, 0, 0, 1, 1, 0) == PILLAR_REFUSED_BUFFER)
+        at++;
+    SAME(THREE_PHASE_PAGE_SIZE, at);
+    phases_fresh(0);
+    for (at = 0; at <= ROOM; at++)
+        SAME(at == THREE_PHASE_PAGE_SIZE ? PILLAR_ACCEPTED : PILLAR_REFUSED_PAGE_LENGTH, three_phase_check(page, at, BUILT_IN));
+
+    at = 1;
+    while (at < ROOM && three_phase_replay(zeros, at, BUILT_IN, PHASES) == PILLAR_REFUSED_LIST_SHORT)
+        at++;
+    SAME(THREE_PHASE_RECORD_SIZE, at);
+}
+
+#define PHASES_AREA(name) {#name, THREE_PHASE_OFFSET_##name, PILLAR_LENGTH_##name}
+#define PHASES_LOG_AREA(log) {#log, THREE_PHASE_OFFSET_LOG(log), PILLAR_LENGTH_LOG}
+
+static const struct area phases_areas[] = {
+    PHASES_AREA(CONTROL),
+    {"LIMITER", THREE_PHASE_OFFSET_LIMITER, THREE_PHASE_LENGTH_LIMITER},
+    PHASES_AREA(CLOCK),
+    PHASES_AREA(ALARMS),
+    PHASES_AREA(ERRORS),
+    PHASES_LOG_AREA(PILLAR_LOG_STANDARD),
+    PHASES_LOG_AREA(PILLAR_LOG_FRAUD),
+    PHASES_LOG_AREA(PILLAR_LOG_DISCONNECT),
+};
+
+static void phases_directory(void)
+{
+    phases_fresh(0);
+    SAME(THREE_PHASE_AREAS, (uint32_t)COUNT_OF(phases_areas));
+    areas_fill(phases_areas, COUNT_OF(phases_areas), THREE_PHASE_DIRECTORY_SIZE, THREE_PHASE_PAGE_SIZE);
+}
+
+#define PHASES_FIELD(name, value, read) field(__LINE__, #name, THREE_PHASE_OFFSET_##name, PILLAR_LENGTH_##name, value, read)
+
+/* The three fields of a line of the limiter. */
+static void line_holds(int source_line, uint32_t line, uint32_t threshold, uint32_t exceeded, uint32_t run)
+{
+    field(source_line, "THRESHOLD", THREE_PHASE_OFFSET_THRESHOLD(line), PILLAR_LENGTH_THRESHOLD, threshold, (uint32_t)three_phase_get_threshold(page, line));
+    field(source_line, "EXCEEDED", THREE_PHASE_OFFSET_EXCEEDED(line), PILLAR_LENGTH_EXCEEDED, exceeded, three_phase_get_exceeded(page, line));
+    field(source_line, "RUN", THREE_PHASE_OFFSET_RUN(line), PILLAR_LENGTH_RUN, run, three_phase_get_run(page, line));
+}
+
+#define LINE_HOLDS(name, threshold, exceeded, run) line_holds(__LINE__, THREE_PHASE_##name, threshold, exceeded, run)
+
+static void samples_of(uint32_t times, int32_t l1, int32_t l2, int32_t l3)
+{
+    for (uint32_t i = 0; i < times; i++)
+        ACCEPTED(three_phase_sample(PHASES_METER, l1, l2, l3, &letter));
+}
+
+/* Every field with bytes of its own. */
+static void phases_fields(void)
+{
+    ACCEPTED(three_phase_fresh(PHASES, PILLAR_CONTROL_MODE_5, 0x01020304, 0x11121314, 0x21222324, 0x31323334, 0x010506, 0x010708, 0x090a0b0c));
+    ACCEPTED(three_phase_set_alarm_filter(PHASES_METER, 0x41424344));
+    ACCEPTED(three_phase_set_error_filter(PHASES_METER, 0x51525354));
+    PHASES_FIELD(CONTROL_MODE, PILLAR_CONTROL_MODE_5, three_phase_get_control_mode(page));
+    PHASES_FIELD(CONTROL_STATE, PILLAR_CONTROL_STATE_CONNECTED, three_phase_get_control_state(page));
+    PHASES_FIELD(OPENINGS, 0, three_phase_get_openings(page));
+    PHASES_FIELD(OVER_DURATION, 0x010506, three_phase_get_over_duration(page));
+    PHASES_FIELD(UNDER_DURATION, 0x010708, three_phase_get_under_duration(page));
+    LINE_HOLDS(L1, 0x01020304, 0, 0);
+    LINE_HOLDS(L2, 0x11121314, 0, 0);
+    LINE_HOLDS(L3, 0x21222324, 0, 0);
+    LINE_HOLDS(SUM, 0x31323334, 0, 0);
+    PHASES_FIELD(CLOCK, 0x090a0b0c, three_phase_get_clock(page));
+    PHASES_FIELD(ALARM_REGISTER, 0, three_phase_get_alarm_register(page));
+    PHASES_FIELD(ALARM_FILTER, 0x41424344, three_phase_get_alarm_filter(page));
+    PHASES_FIELD(ALARM_COUNT, 0, three_phase_get_alarm_count(page));
+    PHASES_FIELD(ERROR_REGISTER, 0, three_phase_get_error_register(page));
+    PHASES_FIELD(ERROR_FILTER, 0x51525354, three_phase_get_error_filter(page));
+
+    /* One line after the other begins to be over: each has a run of its own. */
+    ACCEPTED(three_phase_set_control_mode(PHASES_METER, PILLAR_CONTROL_MODE_6));
+    ACCEPTED(three_phase_set_limiter(PHASES_METER, 0x02030405, 0x03040506, 0x04050607, 0x7f414243, 0x015180, 0x014748));
+    ACCEPTED(three_phase_set_clock(PHASES_METER, 0xf9fafbfc));
+    samples_of(0x0101, 0x02030406, 0, 0);
+    samples_of(0x0102, INT32_MAX, 0, 0);
+    samples_of(0x0103, INT32_MAX, 0x03040507, 0);
+    samples_of(5, INT32_MAX, 0x03040507, 0x04050608);
+    PHASES_FIELD(CONTROL_MODE, PILLAR_CONTROL_MODE_6, three_phase_get_control_mode(page));
+    PHASES_FIELD(OVER_DURATION, 0x015180, three_phase_get_over_duration(page));
+    PHASES_FIELD(UNDER_DURATION, 0x014748, three_phase_get_under_duration(page));
+    LINE_HOLDS(L1, 0x02030405, 0, 0x030b);
+    LINE_HOLDS(L2, 0x03040506, 0, 0x0108);
+    LINE_HOLDS(L3, 0x04050607, 0, 5);
+    LINE_HOLDS(SUM, 0x7f414243, 0, 0x020a);
+    PHASES_FIELD(CLOCK, 0xf9fafbfc + 0x030b, three_phase_get_clock(page));
+
+    /* The core goes on from a changed page: runs of three bytes, and the end of one. */
+    put(THREE_PHASE_OFFSET_RUN(THREE_PHASE_L1), 0x010203);
+    put(THREE_PHASE_OFFSET_RUN(THREE_PHASE_L2), 0x010405);
+    put(THREE_PHASE_OFFSET_RUN(THREE_PHASE_L3), 0x010607);
+    put(THREE_PHASE_OFFSET_RUN(THREE_PHASE_SUM), 0x01517f);
+    samples_of(1, INT32_MAX, 0x03040507, 0x04050608);
+    LINE_HOLDS(L1, 0x02030405, 0, 0x010204);
+    LINE_HOLDS(L2, 0x03040506, 0, 0x010406);
+    LINE_HOLDS(L3, 0x04050607, 0, 0x010608);
+    LINE_HOLDS(SUM, 0x7f414243, 1, 0);
+    PHASES_FIELD(OPENINGS, 1, three_phase_get_openings(page));
+    PHASES_FIELD(CONTROL_STATE, PILLAR_CONTROL_STATE_READY_FOR_RECONNECTION, three_phase_get_control_state(page));
+    SAME(three_phase_supply_is_on(page), 0);
+
+    phases_fresh(PILLAR_CONTROL_MODE_1);
+    SAME(three_phase_supply_is_on(page), 1);
+    put(THREE_PHASE_OFFSET_OPENINGS, 0x00ffffff);
+    put(THREE_PHASE_OFFSET_ALARM_REGISTER, 0xffffffff);
+    page[THREE_PHASE_OFFSET_ALARM_COUNT] = 32;
+    put(THREE_PHASE_OFFSET_ERROR_REGISTER, 0xffffffff);
+    ACCEPTED(three_phase_remote_disconnect(PHASES_METER, &letter));
+    ACCEPTED(three_phase_clear_alarms(PHASES_METER, 0x01020304));
+    ACCEPTED(three_phase_clear_errors(PHASES_METER, 0x11121314));
+    PHASES_FIELD(OPENINGS, 0x01000000, three_phase_get_openings(page));
+    PHASES_FIELD(ALARM_REGISTER, 0xfefdfcfb, three_phase_get_alarm_register(page));
+    PHASES_FIELD(ALARM_COUNT, 27, three_phase_get_alarm_count(page));
+    PHASES_FIELD(ERROR_REGISTER, 0xeeedeceb, three_phase_get_error_register(page));
+}
+
+/* What is not sound in a line of the limiter, on each of the four; nothing is read past them. */
+static void phases_unsound(void)
+{
+    for (at = 0; at < THREE_PHASE_MONITORED_VALUES; at++) {
+        phases_fresh(0);
+        page[THREE_PHASE_OFFSET_EXCEEDED(at)] = 1;
+        ACCEPTED(three_phase_check(PHASES_METER));
+        page[THREE_PHASE_OFFSET_EXCEEDED(at)] = 2;
+        SAME(PILLAR_REFUSED_PAGE_UNSOUND, three_phase_check(PHASES_METER));
+        phases_fresh(0);
+        put(THREE_PHASE_OFFSET_RUN(at), 1);
+        SAME(PILLAR_REFUSED_PAGE_UNSOUND, three_phase_check(PHASES_METER));
+        phases_fresh(0);
+        put(THREE_PHASE_OFFSET_THRESHOLD(at), 0x80000000);
+        SAME(PILLAR_REFUSED_PAGE_UNSOUND, three_phase_check(PHASES_METER));
+    }
+    memset(page, 0xff, sizeof page);
+    SAME((uint32_t)three_phase_get_threshold(page, THREE_PHASE_MONITORED_VALUES), 0);
+    SAME(three_phase_get_exceeded(page, THREE_PHASE_MONITORED_VALUES), 0);
+    SAME(three_phase_get_run(page, THREE_PHASE_MONITORED_VALUES), 0);
+}
+
+static void phases_logs(void)
+{
+    ACCEPTED(three_phase_fresh(PHASES, PILLAR_CONTROL_MODE_1, 0, 0, 0, 0, 1, 1, clock_after(0)));
+    for (uint32_t settings = 1; settings < 3 * PILLAR_LINES_PER_LOG; settings++) {
+        ACCEPTED(three_phase_set_clock(PHASES_METER, clock_after(settings)));
+        ACCEPTED(three_phase_report_event(PHASES_METER, line_owed(PILLAR_LOG_FRAUD, settings - 1).code));
+        ACCEPTED(three_phase_set_limiter(PHASES_METER, 0, 0, 0, 0, 1, 1));
+        log_holds(three_phase_get_log_count, three_phase_get_log_line, PILLAR_LOG_STANDARD, 2 * settings);
+        log_holds(three_phase_get_log_count, three_phase_get_log_line, PILLAR_LOG_FRAUD, settings);
+        log_holds(three_phase_get_log_count, three_phase_get_log_line, PILLAR_LOG_DISCONNECT, settings);
+        log_holds(three_phase_get_log_count, three_phase_get_log_line, 0, 0);
+        log_holds(three_phase_get_log_count, three_phase_get_log_line, PILLAR_LOGS + 1, 0);
+    }
+    for (at = 0; at < 300; at++) {
+        phases_fresh(0);
+        SAME(at - 1 < PILLAR_LOGS ? PILLAR_ACCEPTED : PILLAR_REFUSED_LOG, three_phase_clear_log(PHASES_METER, at));
+        for (uint32_t log = 1; log <= PILLAR_LOGS; log++)
+            SAME(three_phase_get_log_count(page, log), log == at);
+    }
+}
+
+/* The code of a line of log 3, counted from 0. */
+static uint32_t logged_at(uint32_t line)
+{
+    return three_phase_get_log_line(page, PILLAR_LOG_DISCONNECT, line).code;
+}
+
+/* Every code as an event and in each log, under the built-in table and the own one. */
+static void phases_events(void)
+{
+    put_own_table();
+    for (at = 0; at < 1024; at++) {
+        for (int own = 0; own < 2; own++) {
+            const struct event *event = own ? own_event_of(at) : event_of(at);
+            phases_fresh(0);
+            SAME(event ? PILLAR_ACCEPTED : PILLAR_REFUSED_EVENT_CODE,
+                 own ? three_phase_report_event(PHASES_OWN, at) : three_phase_report_event(PHASES_METER, at));
+            for (uint32_t log = 1; log <= PILLAR_LOGS; log++)
+                SAME(event && event->log == log, three_phase_get_log_count(page, log));
+            SAME(event ? at : 0, event ? three_phase_get_log_line(page, event->log, 0).code : UINT32_C(0));
+            SAME(event ? event->alarms : 0, three_phase_get_alarm_register(page));
+            SAME(event ? event->errors : 0, three_phase_get_error_register(page));
+            SAME(event && event->alarms != 0, three_phase_get_alarm_count(page));
+        }
+    }
+    for (uint32_t log = 1; log <= PILLAR_LOGS; log++) {
+        phases_fresh(0);
+        ACCEPTED(three_phase_clear_log(PHASES_METER, log));
+        for (at = 0; at < 256; at++) {
+            page[THREE_PHASE_OFFSET_LINE_CODE(log, 0)] = (uint8_t)at;
+            SAME(has_name(log, at) ? PILLAR_ACCEPTED : PILLAR_REFUSED_PAGE_UNSOUND, three_phase_check(PHASES_METER));
+        }
+    }
+}
+
+/* Powers that are over on one line alone: on each phase, then on the sum. */
+static const int32_t over_on[THREE_PHASE_MONITORED_VALUES][3] = {{11, 0, 0}, {0, 21, 0}, {0, 0, 31}, {10, 20, 11}};
+
+/* Each line fires by its own threshold; the sum is never cut. */
+static void phases_lines(void)
+{
+    for (at = 0; at < THREE_PHASE_MONITORED_VALUES; at++) {
+        phases_fresh(PILLAR_CONTROL_MODE_6);
+        samples_of(1, over_on[at][0], over_on[at][1], over_on[at][2]);
+        SAME(PILLAR_LETTER_G, letter);
+        for (uint32_t line = 0; line < THREE_PHASE_MONITORED_VALUES; line++)
+            line_holds(__LINE__, line, 10 * (line + 1), line == at, 0);
+        SAME(PILLAR_LOGGED_LIMITER_THRESHOLD_EXCEEDED, logged_at(0));
+        SAME(PILLAR_LOGGED_LOCAL_DISCONNECTION, logged_at(1));
+        samples_of(1, 10, 20, 10);
+        SAME(PILLAR_LETTER_H, letter);
+        SAME(PILLAR_LOGGED_LIMITER_THRESHOLD_OK, logged_at(2));
+        SAME(PILLAR_LOGGED_LOCAL_RECONNECTION, logged_at(3));
+        SAME(4, three_phase_get_log_count(page, PILLAR_LOG_DISCONNECT));
+    }
+    at = 0;
+    ACCEPTED(three_phase_fresh(PHASES, PILLAR_CONTROL_MODE_6, INT32_MAX, INT32_MAX, INT32_MAX, INT32_MAX, 1, 1, 0));
+    samples_of(1, INT32_MIN, INT32_MIN, INT32_MIN);
+    samples_of(1, INT32_MIN, -1, 0);
+    SAME(0, three_phase_get_log_count(page, PILLAR_LOG_DISCONNECT));
+    samples_of(1, INT32_MAX, 1, 0);
+    LINE_HOLDS(L1, INT32_MAX, 0, 0);
+    LINE_HOLDS(SUM, INT32_MAX, 1, 0);
+    samples_of(1, INT32_MAX, INT32_MAX, INT32_MAX);
+    LINE_HOLDS(SUM, INT32_MAX, 1, 0);
+}
+
+/* Firings in line order, what is tried after them, the key and a setting on all lines. */
+static void phases_firings(void)
+{
+    static const uint32_t owed[] = {
+        PILLAR_LOGGED_LIMITER_THRESHOLD_EXCEEDED, PILLAR_LOGGED_LOCAL_DISCONNECTION,
+        PILLAR_LOGGED_LIMITER_THRESHOLD_EXCEEDED, PILLAR_LOGGED_LIMITER_THRESHOLD_OK,
+        PILLAR_LOGGED_LIMITER_THRESHOLD_EXCEEDED, PILLAR_LOGGED_LIMITER_THRESHOLD_EXCEEDED,
+        PILLAR_LOGGED_LIMITER_THRESHOLD_OK, PILLAR_LOGGED_LIMITER_THRESHOLD_OK,
+        PILLAR_LOGGED_LIMITER_THRESHOLD_OK, PILLAR_LOGGED_LOCAL_RECONNECTION,
+    };
+    phases_fresh(PILLAR_CONTROL_MODE_5);
+    samples_of(1, 0, 21, 0);
+    SAME(PILLAR_LETTER_G, letter);
+    samples_of(1, 11, 0, 31);
+    SAME(PILLAR_LETTER_NONE, letter);
+    samples_of(1, 11, 0, 0);
+    SAME(PILLAR_LETTER_NONE, letter);
+    samples_of(1, 0, 0, 0);
+    SAME(PILLAR_LETTER_H, letter);
+    SAME((uint32_t)COUNT_OF(owed), three_phase_get_log_count(page, PILLAR_LOG_DISCONNECT));
+    for (at = 0; at < COUNT_OF(owed); at++)
+        SAME(owed[at], logged_at(at));
+
+    ACCEPTED(three_phase_set_limiter(PHASES_METER, 10, 20, 30, 40, 1, 9));
+    samples_of(1, 11, 21, 31);
+    samples_of(3, 0, 0, 0);
+    for (at = 0; at < THREE_PHASE_MONITORED_VALUES; at++)
+        line_holds(__LINE__, at, 10 * (at + 1), 1, 3);
+    ACCEPTED(three_phase_set_limiter(PHASES_METER, 11, 21, 31, 41, 9, 8));
+    for (at = 0; at < THREE_PHASE_MONITORED_VALUES; at++)
+        line_holds(__LINE__, at, 10 * (at + 1) + 1, 1, 0);
+    SAME(17, three_phase_get_log_count(page, PILLAR_LOG_DISCONNECT));
+    SAME(PILLAR_LOGGED_LIMITER_THRESHOLD_CHANGED, logged_at(16));
+    samples_of(2, 0, 0, 0);
+    ACCEPTED(three_phase_manual_reconnect(PHASES_METER, &letter));
+    SAME(PILLAR_LETTER_E, letter);
+    for (at = 0; at < THREE_PHASE_MONITORED_VALUES; at++)
+        line_holds(__LINE__, at, 10 * (at + 1) + 1, 0, 0);
+}
+
+/* A call by its name, with as many of the numbers as it takes, under the own table. */
+static uint32_t phases_call(uint32_t kind, const uint32_t *n)
+{
+    letter = PILLAR_LETTER_NONE;
+    switch (kind) {
+    case 1:
+        return three_phase_sample(PHASES_OWN, (int32_t)n[0], (int32_t)n[1], (int32_t)n[2], &letter);
+    case 2:
+        return three_phase_remote_disconnect(PHASES_OWN, &letter);
+    case 3:
+        return three_phase_remote_reconnect(PHASES_OWN, &letter);
+    case 4:
+        return three_phase_manual_disconnect(PHASES_OWN, &letter);
+    case 5:
+        return three_phase_manual_reconnect(PHASES_OWN, &letter);
+    case 6:
+        return three_phase_set_control_mode(PHASES_OWN, n[0]);
+    case 7:
+        return three_phase_set_limiter(PHASES_OWN, (int32_t)n[0], (int32_t)n[1], (int32_t)n[2], (int32_t)n[3], n[4], n[5]);
+    case 8:
+        return three_phase_set_clock(PHASES_OWN, n[0]);
+    case 9:
+        return three_phase_report_event(PHASES_OWN, n[0]);
+    case 10:
+        return three_phase_set_alarm_filter(PHASES_OWN, n[0]);
+    case 11:
+        return three_phase_set_error_filter(PHASES_OWN, n[0]);
+    case 12:
+        return three_phase_clear_alarms(PHASES_OWN, n[0]);
+    case 13:
+        return three_phase_clear_errors(PHASES_OWN, n[0]);
+    case 14:
+        return three_phase_clear_log(PHASES_OWN, n[0]);
+    default:
+        return three_phase_execute_script(PHASES_OWN, n[0], &letter);
+    }
+}
+
+/* Numbers that differ in each place, for every kind; each is accepted by some and refused by others. */
+static const uint32_t numbers[][6] = {
+    {11, 0, 0, 0, 1, 1},
+    {0, 21, 0, 1, 2, 3},
+    {0, 0, 31, 4, 86400, 6},
+    {1, 2, 3, 4, 5, 86400},
+    {2, 5, 7, 9, 11, 13},
+    {3, 2, 1, 0xffffffff, 1, 1},
+    {6, 1, 0xffffffff, 2, 0, 1},
+    {7, 0xffffffff, 3, 2, 1, 0},
+    {254, 6, 5, 4, 3, 2},
+    {256, 0x102, 0x304, 0x506, 0x708, 0x90a},
+    {257, 20, 30, 40, 86401, 1},
+    {0xfffffffb, 1, 4, 9, 16, 25},
+};
+
+/* Each call by name, from each control state, is three_phase_call with its kind: the number, the letter and the page. */
+static void phases_calls(void)
+{
+    static uint8_t before[ROOM], after[ROOM];
+    put_own_table();
+    for (at = 1; at <= 15; at++) {
+        for (uint32_t i = 0; i < 6 * COUNT_OF(numbers); i++) {
+            const uint32_t *n = numbers[i / 6];
+            uint8_t named;
+            phases_fresh(PILLAR_CONTROL_MODE_5);
+            ACCEPTED(three_phase_report_event(PHASES_OWN, 254));
+            ACCEPTED(three_phase_report_event(PHASES_OWN, 0));
+            page[THREE_PHASE_OFFSET_CONTROL_STATE] = (uint8_t)(i % 3);
+            page[THREE_PHASE_OFFSET_EXCEEDED(THREE_PHASE_L1)] = i % 6 >= 3;
+            memcpy(before, page, sizeof page);
+            uint32_t answer_named = phases_call(at, n);
+            named = letter;
+            memcpy(after, page, sizeof page);
+            memcpy(page, before, sizeof page);
+            letter = UNSTORED;
+            SAME(answer_named, three_phase_call(PHASES_OWN, at, n[0], n[1], n[2], n[3], n[4], n[5], &letter));
+            SAME(named, letter);
+            same(__LINE__, "whether the page is another", 0, memcmp(page, after, sizeof page) != 0);
+        }
+    }
+}
+
+/* Every request, and a firing on a line, in every control mode and control state: as on the other meter. */
+static void phases_requests(void)
+{
+    static uint8_t other[ROOM];
+    static const uint32_t requested_kinds[][2] = {
+        {PILLAR_KIND_REMOTE_DISCONNECT, 0}, {PILLAR_KIND_REMOTE_RECONNECT, 0}, {PILLAR_KIND_MANUAL_DISCONNECT, 0},
+        {PILLAR_KIND_MANUAL_RECONNECT, 0}, {PILLAR_KIND_EXECUTE_SCRIPT, PILLAR_SCRIPT_REMOTE_DISCONNECT},
+        {PILLAR_KIND_EXECUTE_SCRIPT, PILLAR_SCRIPT_REMOTE_RECONNECT}, {PILLAR_KIND_SAMPLE, 11}, {PILLAR_KIND_SAMPLE, 10},
+        {PILLAR_KIND_SET_CONTROL_MODE, PILLAR_CONTROL_MODE_NONE},
+    };
+    for (uint32_t mode = PILLAR_CONTROL_MODE_NONE; mode <= PILLAR_CONTROL_MODE_6; mode++) {
+        for (at = 0; at < 6 * COUNT_OF(requested_kinds); at++) {
+            uint32_t kind = requested_kinds[at / 6][0];
+            uint32_t n = requested_kinds[at / 6][1];
+            uint8_t other_letter = UNSTORED;
+            if (mode == PILLAR_CONTROL_MODE_NONE && at % 3 != PILLAR_CONTROL_STATE_CONNECTED)
+                continue;
+            ACCEPTED(pillar_fresh(other, PILLAR_PAGE_SIZE, mode, 10, 1, 1, 0));
+            other[PILLAR_OFFSET_CONTROL_STATE] = (uint8_t)(at % 3);
+            other[PILLAR_OFFSET_EXCEEDED] = at % 6 >= 3;
+            phases_fresh(mode);
+            page[THREE_PHASE_OFFSET_CONTROL_STATE] = (uint8_t)(at % 3);
+            page[THREE_PHASE_OFFSET_EXCEEDED(THREE_PHASE_L1)] = at % 6 >= 3;
+            letter = UNSTORED;
+            SAME(pillar_call(other, PILLAR_PAGE_SIZE, BUILT_IN, kind, n, 0, 0, 0, 0, &other_letter),
+                 three_phase_call(PHASES_METER, kind, n, 0, 0, 0, 0, 0, &letter));
+            SAME(other_letter, letter);
+            SAME(pillar_get_control_state(other), three_phase_get_control_state(page));
+            SAME(pillar_supply_is_on(other), three_phase_supply_is_on(page));
+            SAME(pillar_get_openings(other), three_phase_get_openings(page));
+            for (uint32_t line = 0; line < 3; line++)
+                SAME(pillar_get_log_line(other, PILLAR_LOG_DISCONNECT, line).code, logged_at(line));
+        }
+    }
+}
+
+/* A page of one meter is none of the other's, under its own length or the other's. */
+static void phases_other_page(void)
+{
+    size_t answer_length;
+    fresh(PILLAR_CONTROL_MODE_1);
+    SAME(PILLAR_REFUSED_PAGE_LENGTH, three_phase_check(METER));
+    SAME(PILLAR_REFUSED_PAGE_LENGTH, three_phase_remote_disconnect(METER, &letter));
+    SAME(PILLAR_REFUSED_PAGE_PAIRS, three_phase_check(PHASES_METER));
+    SAME(PILLAR_REFUSED_PAGE_PAIRS, three_phase_remote_disconnect(PHASES_METER, &letter));
+    ACCEPTED(pillar_check(METER));
+    phases_fresh(PILLAR_CONTROL_MODE_1);
+    SAME(PILLAR_REFUSED_PAGE_LENGTH, pillar_check(PHASES_METER));
+    SAME(PILLAR_REFUSED_PAGE_LENGTH, pillar_remote_disconnect(PHASES_METER, &letter));
+    SAME(PILLAR_REFUSED_PAGE_LENGTH, pillar_request(PHASES_METER, page, 0, answer, sizeof answer, &answer_length, &letter));
+    SAME(PILLAR_REFUSED_PAGE_PAIRS, pillar_check(METER));
+    SAME(PILLAR_REFUSED_PAGE_PAIRS, pillar_remote_disconnect(METER, &letter));
+    SAME(PILLAR_REFUSED_PAGE_PAIRS, pillar_request(METER, page, 0, answer, sizeof answer, &answer_length, &letter));
+    ACCEPTED(three_phase_check(PHASES_METER));
+}
+
+/* The fifteen kinds, and no other: those of the groups and the profile are refused on a good page too. */
+static void phases_kinds(void)
+{
+    static uint8_t before[ROOM];
+    for (at = 0; at < 300; at++) {
+        bool known = at >= PILLAR_KIND_SAMPLE && at <= PILLAR_KIND_EXECUTE_SCRIPT;
+        letter = UNSTORED;
+        SAME(known ? PILLAR_REFUSED_PAGE_LENGTH : PILLAR_REFUSED_KIND, three_phase_call(page, 0, BUILT_IN, at, 0, 0, 0, 0, 0, 0, &letter));
+        SAME(PILLAR_LETTER_NONE, letter);
+    }
+    phases_fresh(PILLAR_CONTROL_MODE_1);
+    memcpy(before, page, sizeof page);
+    for (at = PILLAR_KIND_SET_GROUPS; at <= PILLAR_KIND_SET_PROFILE; at++) {
+        LETTER_REFUSED(KIND, three_phase_call(PHASES_METER, at, 1, 0x10000, 1, 1, 0, 0, &letter));
+        same(__LINE__, "whether a refusal changes the page", 0, memcmp(page, before, sizeof page) != 0);
+    }
+}
+
+/* The refusals in their order; a refused call leaves no letter. */
+static void phases_refusals(void)
+{
+    phases_fresh(PILLAR_CONTROL_MODE_3);
+    SAME(PILLAR_REFUSED_CONTROL_MODE, three_phase_fresh(page, 0, 7, -1, 0, 0, 0, 0, 1, 0));
+    SAME(PILLAR_REFUSED_THRESHOLD, three_phase_fresh(page, 0, 6, -1, 0, 0, 0, 0, 1, 0));
+    SAME(PILLAR_REFUSED_THRESHOLD, three_phase_fresh(page, 0, 6, 0, -1, 0, 0, 0, 1, 0));
+    SAME(PILLAR_REFUSED_THRESHOLD, three_phase_fresh(page, 0, 6, 0, 0, -1, 0, 1, 0, 0));
+    SAME(PILLAR_REFUSED_THRESHOLD, three_phase_fresh(page, 0, 6, 0, 0, 0, INT32_MIN, 1, 0, 0));
+    SAME(PILLAR_REFUSED_DURATION, three_phase_fresh(page, 0, 6, 0, 0, 0, 0, 0, 1, 0));
+    SAME(PILLAR_REFUSED_DURATION, three_phase_fresh(page, 0, 6, 0, 0, 0, 0, 1, 86401, 0));
+    SAME(PILLAR_REFUSED_BUFFER, three_phase_fresh(page, 0, 6, 0, 0, 0, 0, 1, 86400, 0));
+    SAME(PILLAR_REFUSED_CONTROL_MODE, three_phase_set_control_mode(PHASES_METER, 256));
+    SAME(PILLAR_REFUSED_THRESHOLD, three_phase_set_limiter(PHASES_METER, -1, 0, 0, 0, 0, 1));
+    SAME(PILLAR_REFUSED_THRESHOLD, three_phase_set_limiter(PHASES_METER, 0, -1, 0, 0, 0, 1));
+    SAME(PILLAR_REFUSED_THRESHOLD, three_phase_set_limiter(PHASES_METER, 0, 0, -1, 0, 1, 0));
+    SAME(PILLAR_REFUSED_THRESHOLD, three_phase_set_limiter(PHASES_METER, 0, 0, 0, INT32_MIN, 1, 0));
+    SAME(PILLAR_REFUSED_DURATION, three_phase_set_limiter(PHASES_METER, 0, 0, 0, 0, 86401, 1));
+    SAME(PILLAR_REFUSED_DURATION, three_phase_set_limiter(PHASES_METER, 0, 0, 0, 0, 1, 0));
+    SAME(PILLAR_REFUSED_LOG, three_phase_clear_log(PHASES_METER, 257));
+
+    ACCEPTED(three_phase_remote_disconnect(PHASES_METER, &letter));
+    SAME(PILLAR_LETTER_B, letter);
+    LETTER_REFUSED(MODE_RULE, three_phase_manual_disconnect(PHASES_METER, &letter));
+    LETTER_REFUSED(SCRIPT, three_phase_execute_script(PHASES_METER, 3, &letter));
+    page[THREE_PHASE_OFFSET_CONTROL_STATE] = 3;
+    LETTER_REFUSED(PAGE_UNSOUND, three_phase_execute_script(PHASES_METER, 3, &letter));
+    page[0] ^= 1;
+    LETTER_REFUSED(PAGE_PAIRS, three_phase_execute_script(PHASES_METER, 3, &letter));
+    LETTER_REFUSED(PAGE_LENGTH, three_phase_execute_script(page, THREE_PHASE_PAGE_SIZE - 1, BUILT_IN, 3, &letter));
+    LETTER_REFUSED(KIND, three_phase_call(page, THREE_PHASE_PAGE_SIZE - 1, BUILT_IN, PILLAR_KIND_FRESH, 3, 0, 0, 0, 0, 0, &letter));
+}
+
+/* Records of a list: the kind and eight numbers. */
+static const uint32_t records[][9] = {
+    {PILLAR_KIND_FRESH, PILLAR_CONTROL_MODE_5, 0x01020304, 0x05060708, 0x090a0b0c, 0x0d0e0f10, 0x010506, 0x010708, 0xf1f2f3f4},
+    {PILLAR_KIND_SAMPLE, 0x01020305, 0xffffffff, 0x090a0b0d, 7, 7, 7, 7, 7},
+    {PILLAR_KIND_FRESH, 1, 1, 1, 1, 1, 1, 1, 1},
+    {PILLAR_KIND_SET_GROUPS, 1, 0x10000, 0, 0, 0, 0, 0, 0},
+    {PILLAR_KIND_SET_PROFILE, 1, 1, 1, 1, 1, 1, 1, 1},
+    {PILLAR_KIND_SET_LIMITER, 1, 2, 3, 4, 5, 6, 7, 8},
+    {PILLAR_KIND_REPORT_EVENT, 254, 7, 7, 7, 7, 7, 7, 7},
+    {PILLAR_KIND_EXECUTE_SCRIPT, 1, 7, 7, 7, 7, 7, 7, 7},
+};
+
+enum { RECORDS = COUNT_OF(records) };
+
+/* A list leaves the page that its calls leave, under its table; its refusals in their order. */
+static void phases_list(void)
+{
+    static uint8_t list[RECORDS * THREE_PHASE_RECORD_SIZE];
+    static uint8_t called[ROOM], replayed[ROOM];
+    put_own_table();
+    for (uint32_t i = 0; i < RECORDS; i++) {
+        uint8_t *record = list + i * THREE_PHASE_RECORD_SIZE;
+        record[0] = (uint8_t)records[i][0];
+        for (uint32_t j = 0; j < 32; j++)
+            record[1 + j] = (uint8_t)(records[i][1 + j / 4] >> (24 - 8 * (j % 4)));
+    }
+    const uint32_t *first = records[0];
+    memset(page, FILL, sizeof page);
+    ACCEPTED(three_phase_fresh(page, sizeof page, first[1], (int32_t)first[2], (int32_t)first[3], (int32_t)first[4], (int32_t)first[5], first[6], first[7], first[8]));
+    for (uint32_t i = 1; i < RECORDS; i++) {
+        const uint32_t *n = records[i];
+        bool known = n[0] >= PILLAR_KIND_SAMPLE && n[0] <= PILLAR_KIND_EXECUTE_SCRIPT;
+        SAME(known ? PILLAR_ACCEPTED : PILLAR_REFUSED_KIND, three_phase_call(PHASES_OWN, n[0], n[1], n[2], n[3], n[4], n[5], n[6], &letter));
+    }
+    memcpy(called, page, sizeof page);
+    memset(replayed, FILL, sizeof replayed);
+    ACCEPTED(three_phase_replay(list, sizeof list, table, OWN_LINES * PILLAR_TABLE_LINE_SIZE, replayed, sizeof replayed));
+    SAME(0, (uint32_t)(memcmp(called, replayed, sizeof called) != 0));
+    ACCEPTED(three_phase_replay(list, sizeof list, BUILT_IN, replayed, sizeof replayed));
+    SAME(1, (uint32_t)(memcmp(called, replayed, sizeof called) != 0));
+
+    SAME(PILLAR_REFUSED_BUFFER, three_phase_replay(list, sizeof list, BUILT_IN, page, THREE_PHASE_PAGE_SIZE - 1));
+    SAME(PILLAR_REFUSED_LIST_SHORT, three_phase_replay(list, sizeof list - 1, BUILT_IN, page, 0));
+    put_number(list + 25, 0);
+    SAME(PILLAR_REFUSED_DURATION, three_phase_replay(list, sizeof list - 1, BUILT_IN, page, 0));
+    put_number(list + 17, 0xffffffff);
+    SAME(PILLAR_REFUSED_THRESHOLD, three_phase_replay(list, sizeof list - 1, BUILT_IN, page, 0));
+    put_number(list + 1, 7);
+    SAME(PILLAR_REFUSED_CONTROL_MODE, three_phase_replay(list, sizeof list - 1, BUILT_IN, page, 0));
+    for (at = 1; at < 256; at++) {
+        list[0] = (uint8_t)at;
+        SAME(PILLAR_REFUSED_LIST_BAD, three_phase_replay(list, sizeof list - 1, BUILT_IN, page, 0));
+    }
+    SAME(PILLAR_REFUSED_LIST_SHORT, three_phase_replay(list, THREE_PHASE_RECORD_SIZE - 1, BUILT_IN, page, 0));
+    SAME(PILLAR_REFUSED_LIST_EMPTY, three_phase_replay(list, 0, BUILT_IN, page, 0));
+    SAME(0, (uint32_t)(memcmp(called, page, sizeof page) != 0));
+}
+
 /* ---- Berths, energy and tariff ------------------------------------------- */
 
 /* Whether numbers of more than 32 bits are the same. */
@@ -1183,6 +1727,20 @@ int main(void)
     dlms_requests();
     kinds();
     refusals();
+    phases_sizes();
+    phases_directory();
+    phases_fields();
+    phases_unsound();
+    phases_logs();
+    phases_events();
+    phases_lines();
+    phases_firings();
+    phases_calls();
+    phases_requests();
+    phases_other_page();
+    phases_kinds();
+    phases_refusals();
+    phases_list();
     berths();
     energy();
     tariff();

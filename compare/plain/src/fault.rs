@@ -6,6 +6,8 @@
 
 mod request;
 pub use request::*;
+mod three_phase;
+pub use three_phase::*;
 
 pub const NONE: u8 = 0;
 /// "Tripping at power equal to threshold."

@@ -10,6 +10,8 @@
 //! of the logs that is tuned for speed. The quotations in the comments are
 //! document 01's, but for those marked (02, A1) to (02, A9).
 //! [`Machine::request`] answers a request as DLMS bytes (02, A9).
+//! [`three_phase`] is the meter with three powers a second (02, A13), which has all
+//! but the limiter and the emergency profile from here.
 
 pub mod access_result;
 mod apdu;
@@ -27,6 +29,7 @@ mod page;
 pub mod refusal;
 mod request;
 mod table;
+pub mod three_phase;
 
 // Requests A10, A11 and A12, which stand apart from the meter.
 pub mod berths;

@@ -77,7 +77,7 @@ impl Limiter {
     }
 
     // The limiter after a sample that is over or not.
-    fn watch(self, over: bool) -> Watched
+    pub fn watch(self, over: bool) -> Watched
         ensures { λ r. ⌜ r ≡ watched self over ⌝ }
     {
         let exceeded = self.exceeded;

@@ -3,7 +3,8 @@
 // of a refusal, and a refusal leaves every byte of the page. An event table goes as bytes with each
 // call on a page: those of a good table, or any others, as none at all, for the built-in one.
 // `include/pillar.h` declares them.
-// Apart from the meter stand the functions of a column, of the energy of a day and of a bill.
+// The three-phase meter has functions of its own, on a page of its own.
+// Apart from the meters stand the functions of a column, of the energy of a day and of a bill.
 ghost use mathlib.Core.Path.{_≡_};
 ghost use Rattle.events.specs.Table.{builtIn};
 ghost use Rattle.tables.specs.Bytes.{tableRefusal, tableOf};
@@ -19,6 +20,7 @@ mod bill;
 mod column;
 mod day;
 mod request;
+mod three_phase;
 
 use calls::Answer;
 use calls::Command;

@@ -1,3 +1,4 @@
 pub mod Lines
 pub mod Threshold
 pub mod Parts
+pub mod ThreePhaseRecord

@@ -13,7 +13,7 @@ use Rattle.steps.proofs.Sound.{limiter-sound, emergency-sound}
 use Rattle.page.specs.Layout.{layout, start, meterIn, isRecord, holdsSound}
 
 -- a sound limiter has a threshold of its range
-limiter-threshold : (l : Limiter) → soundLimiter l ≡ true → isThreshold (l .threshold) ≡ true
+pub limiter-threshold : (l : Limiter) → soundLimiter l ≡ true → isThreshold (l .threshold) ≡ true
 unfolding soundLimiter
 limiter-threshold l e =
     let settings = and-left (soundSettings l) (ltb (l .run) (awaited l)) e in
@@ -45,6 +45,12 @@ thresholds-sound rows m e =
 
 -- ---- the reader's test of the bytes
 
+-- where a sound record has thresholds of their ranges, bytes that fail the test of these hold none
+pub lacking : (v t m : Bool) → (m ≡ true → t ≡ true) → v && t ≡ false → v && m ≡ false
+lacking true t true h e = sym (h refl) ∙ e
+lacking true t false h e = refl
+lacking false t m h e = refl
+
 valid-is : (s : List ℕ) → layout .valid s start ≡ leb (numAt 1 s 54) 1
 unfolding layout
 valid-is s = rw (and-true, and-true)
@@ -69,12 +75,7 @@ module _ (rows : List EventRow) (s : List ℕ) where
   -- bytes that do not pass hold no record that is sound, by whatever event table
   pub failed : isRecord s ≡ false → holdsSound rows s ≡ false
   unfolding holdsSound
-  failed e = go (layout .valid s start) (thresholds (meterIn s)) (soundMeter rows (meterIn s)) (thresholds-sound rows (meterIn s)) e
-    where
-      go : (v t m : Bool) → (m ≡ true → t ≡ true) → v && t ≡ false → v && m ≡ false
-      go true t true h e = sym (h refl) ∙ e
-      go true t false h e = refl
-      go false t m h e = refl
+  failed e = lacking (layout .valid s start) (thresholds (meterIn s)) (soundMeter rows (meterIn s)) (thresholds-sound rows (meterIn s)) e
 
   -- of bytes that pass, the record decides
   pub passed-sound : isRecord s ≡ true → holdsSound rows s ≡ soundMeter rows (meterIn s)

@@ -6,6 +6,7 @@ ghost use Rattle.page.specs.Laws.{Laws, WrittenBack};
 ghost use Rattle.page.specs.NearMisses.{NearMisses};
 
 mod areas;
+mod three_phase;
 
 use calls::Answer;
 use calls::Letter;
@@ -13,6 +14,7 @@ use meter::Meter;
 use meter::Outcome;
 use page::FIRST_LOG;
 use page::PAGE_LEN;
+pub use three_phase::read_three_phase_page;
 
 // The record of a page: 9 if the length is not 599, 10 if a pair differs, 11 if the record would not
 // be sound by the event table.

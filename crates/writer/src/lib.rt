@@ -9,6 +9,7 @@ ghost use Rattle.page.specs.Demand3.{Demand3};
 ghost use Rattle.page.specs.Examples.{Examples};
 
 mod areas;
+mod three_phase;
 
 use calls::Answer;
 use meter::Meter;
@@ -16,6 +17,8 @@ use page::EMERGENCY;
 use page::FIRST_LOG;
 use page::PAGE_LEN;
 use steps::Scalars;
+pub use three_phase::write_three_phase_page;
+pub use three_phase::write_three_phase_sound;
 
 // Writes the record's page into the first 599 bytes of the buffer. Refuses a record that is not
 // sound by the event table with 12, then a buffer that is too short with 8, and then writes nothing.

@@ -29,7 +29,7 @@ impl Letter {
         }
     }
 
-    /// The letter that `pillar_call` stored, 0 for none.
+    /// The letter that a call stored, 0 for none.
     ///
     /// # Panics
     ///
@@ -45,7 +45,7 @@ impl Letter {
             b'f' => Letter::F,
             b'g' => Letter::G,
             b'h' => Letter::H,
-            _ => panic!("pillar_call left the letter {byte:#04x}: neither 0 nor `a` to `h`"),
+            _ => panic!("the archive left the letter {byte:#04x}: neither 0 nor `a` to `h`"),
         })
     }
 }

@@ -10,6 +10,8 @@
 //! [`BUILT_IN`], or a harbour's own, which [`table`] judges. One table belongs to
 //! one page. No call refuses a table: where its bytes are no good one, the built-in
 //! table serves.
+//!
+//! The meter with three powers a second has a module of its own, [`three_phase`].
 
 pub mod harbour;
 mod letter;
@@ -18,6 +20,7 @@ mod linked;
 mod request;
 #[cfg(feature = "stand-in")]
 mod stand_in;
+pub mod three_phase;
 
 #[cfg(not(feature = "stand-in"))]
 use linked as core;

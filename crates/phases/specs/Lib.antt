@@ -1,0 +1,4 @@
+pub mod Calls
+pub mod ThreePhase
+pub mod Laws
+pub mod Examples

@@ -1,0 +1,9 @@
+pub mod Values
+pub mod Ranges
+pub mod Recorded
+pub mod Preserved
+pub mod Simulates
+pub mod Laws
+pub mod Tail
+pub mod Accepting
+pub mod Examples

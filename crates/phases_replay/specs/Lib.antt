@@ -1,0 +1,4 @@
+pub mod Input
+pub mod Replay
+pub mod Laws
+pub mod Examples

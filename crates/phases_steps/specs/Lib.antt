@@ -1,0 +1,4 @@
+pub mod Scalars
+pub mod Step
+pub mod Sample
+pub mod Laws
