@@ -32,19 +32,23 @@ filling (suc p) left (b ∷ bs) = shareOf left b .berth ∷ filling p (shareOf l
 
 module _ (ys : List Berth) (j p : ℕ) (d : Berth) (left : ℕ) (last : List Berth) where
   next-at : (m : ℕ) → j < length ys → take j ys ++ filling (suc m) left (drop j ys) ≡ last
-      → take (suc j) (set ys j (shareOf left (getD ys j d) .berth)) ++ filling m (shareOf left (getD ys j d) .left) (drop (suc j) (set ys j (shareOf left (getD ys j d) .berth))) ≡ last
+      → take (suc j) (set ys j (shareOf left (getD ys j d) .berth))
+      ++ filling m (shareOf left (getD ys j d) .left) (drop (suc j) (set ys j (shareOf left (getD ys j d) .berth))) ≡ last
   unfolding filling
   next-at m h e =
       let y = shareOf left (getD ys j d) .berth in
       rw (take-suc-set ys j y h, drop-set-lt (suc j) ys j y (omega arith)) (append-assoc (take j ys) (y ∷ []) _ ∙ rw (drop-cons ys j d h) at e)
 
   pub filled-next : j < length ys → j < p → take j ys ++ filling (p - j) left (drop j ys) ≡ last
-      → take (j + 1) (set ys j (shareOf left (getD ys j d) .berth)) ++ filling (p - (j + 1)) (shareOf left (getD ys j d) .left) (drop (j + 1) (set ys j (shareOf left (getD ys j d) .berth))) ≡ last
+      → take (j + 1) (set ys j (shareOf left (getD ys j d) .berth))
+      ++ filling (p - (j + 1)) (shareOf left (getD ys j d) .left) (drop (j + 1) (set ys j (shareOf left (getD ys j d) .berth))) ≡ last
   filled-next h l e =
       let s : p - j ≡ suc (p - (j + 1)) = omega arith in
       let r = next-at (p - (j + 1)) h (rw s at e) in
       let t : j + 1 ≡ suc j = omega arith in
-      ap (λ (k : ℕ). take k (set ys j (shareOf left (getD ys j d) .berth)) ++ filling (p - (j + 1)) (shareOf left (getD ys j d) .left) (drop k (set ys j (shareOf left (getD ys j d) .berth)))) t ∙ r
+      ap
+      (λ (k : ℕ). take k (set ys j (shareOf left (getD ys j d) .berth))
+      ++ filling (p - (j + 1)) (shareOf left (getD ys j d) .left) (drop k (set ys j (shareOf left (getD ys j d) .berth)))) t ∙ r
 
   pub filled-all : p ≤ j → take j ys ++ filling (p - j) left (drop j ys) ≡ last → ys ≡ last
   unfolding filling
@@ -69,7 +73,13 @@ below-sum room g s = go (ltb room g) refl
         rest false h = let l = ltb-false (room - g) s h in let k = ltb-false room g e in rw (h, le-ltb room (g + s) (omega arith))
 
 pub carried : (c : Column) (bs : List Berth)
-    → withBerths c bs ≡ record { faulty = c .faulty || anyFaulty bs; short = c .short || ltb (c .room) (guarantees bs); room = c .room - guarantees bs; left = c .left - sum firstPart bs }
+    → withBerths c bs
+    ≡ record {
+      faulty = c .faulty || anyFaulty bs;
+      short = c .short || ltb (c .room) (guarantees bs);
+      room = c .room - guarantees bs;
+      left = c .left - sum firstPart bs;
+    }
 unfolding withBerths any sum
 carried c [] = λ i. record {
   faulty = sym (or-false (c .faulty)) i;
@@ -82,7 +92,8 @@ carried c [] = λ i. record {
     the-same n = omega arith
 carried c (b ∷ bs) = carried (withBerth c b) bs ∙ λ i. record {
   faulty = or-assoc (c .faulty) (isFaulty (b .guarantee) (b .cap)) (anyFaulty bs) i;
-  short = (or-assoc (c .short) (ltb (c .room) (positivePart (b .guarantee))) (ltb (c .room - positivePart (b .guarantee)) (guarantees bs)) ∙ ap (λ (x : Bool). c .short || x) (below-sum (c .room) (positivePart (b .guarantee)) (guarantees bs))) i;
+  short = (or-assoc (c .short) (ltb (c .room) (positivePart (b .guarantee))) (ltb (c .room - positivePart (b .guarantee)) (guarantees bs))
+      ∙ ap (λ (x : Bool). c .short || x) (below-sum (c .room) (positivePart (b .guarantee)) (guarantees bs))) i;
   room = twice (c .room) (positivePart (b .guarantee)) (guarantees bs) i;
   left = twice (c .left) (firstPart b) (sum firstPart bs) i;
 }
@@ -114,6 +125,7 @@ module _ (limit : ℤ) (bs : List Berth) where
       go false = refl
 
   -- what comes of the column
-  pub judged : filling (judgedOf (withBerths (atLimit limit) bs) (length bs) .places) (judgedOf (withBerths (atLimit limit) bs) (length bs) .left) bs ≡ filled limit bs
+  pub judged :
+      filling (judgedOf (withBerths (atLimit limit) bs) (length bs) .places) (judgedOf (withBerths (atLimit limit) bs) (length bs) .left) bs ≡ filled limit bs
   unfolding filled
   judged = rw (judged-number, judged-left) (places-filled (refusal limit bs) (positivePart limit - sum firstPart bs))

@@ -113,14 +113,16 @@ abbrev allotments : List Berth → ℕ
 allotments cs = sum (λ b. positivePart (b .allotment)) cs
 
 -- allotments that are each the first part, or at least that, sum to no less
-same-firsts : (bs cs : List Berth) → length cs ≡ length bs → ((j : ℕ) → j < length bs → allotmentAt cs j ≡ firstPart (berthAt bs j)) → allotments cs ≡ sum firstPart bs
+same-firsts : (bs cs : List Berth) → length cs ≡ length bs → ((j : ℕ) → j < length bs → allotmentAt cs j ≡ firstPart (berthAt bs j))
+    → allotments cs ≡ sum firstPart bs
 unfolding sum
 same-firsts [] [] l h = refl
 same-firsts [] (c ∷ cs) l h = absurd (omega arith)
 same-firsts (b ∷ bs) [] l h = absurd (omega arith)
 same-firsts (b ∷ bs) (c ∷ cs) l h = omega (arith, h 0 (omega arith), same-firsts bs cs (omega arith) (λ j k. h (suc j) (omega arith)))
 
-least-firsts : (bs cs : List Berth) → length cs ≡ length bs → ((j : ℕ) → j < length bs → firstPart (berthAt bs j) ≤ allotmentAt cs j) → sum firstPart bs ≤ allotments cs
+least-firsts : (bs cs : List Berth) → length cs ≡ length bs → ((j : ℕ) → j < length bs → firstPart (berthAt bs j) ≤ allotmentAt cs j)
+    → sum firstPart bs ≤ allotments cs
 unfolding sum
 least-firsts [] [] l h = omega arith
 least-firsts [] (c ∷ cs) l h = absurd (omega arith)

@@ -21,7 +21,8 @@ use denote.Steps.{facts, heard, nothing}
 use denote.Triple.Statement.{Contract, Triple}
 use denote.Triple.Call.{calls-at}
 
-module _ {M : Type 1} {𝓤 : URA M} {H : Heap 𝓤} {A : Atoms 𝓤} {W : Given 𝓤 H A} {Γ : List (Item 𝓤)} {E : Env 𝓤 H} {C : Calls 𝓤 H} {Λ : Loops 𝓤 H} {q : Post 𝓤 H} {f : Name} {xs : List Operand} {d : Place} {rest : Body} where
+module _ {M : Type 1} {𝓤 : URA M} {H : Heap 𝓤} {A : Atoms 𝓤} {W : Given 𝓤 H A} {Γ : List (Item 𝓤)} {E : Env 𝓤 H} {C : Calls 𝓤 H}
+    {Λ : Loops 𝓤 H} {q : Post 𝓤 H} {f : Name} {xs : List Operand} {d : Place} {rest : Body} where
   -- R is the result's type, says r what the contract ensures of r, and φ r the fact that is taken from it
   pub by-value : FmC 𝓤 H (W .laws) C → (G : Contract 𝓤) → Triple 𝓤 (C f) G → (x : G .Ghost) → ent 𝓤 (sem 𝓤 H A ftrue) (G .pre x)
       → (R : RattleType) (says : R .Denot → SProp 𝓤) (φ : R .Denot → Type 0)
@@ -33,7 +34,8 @@ module _ {M : Type 1} {𝓤 : URA M} {H : Heap 𝓤} {A : Atoms 𝓤} {W : Given
   by-value fm G met x asks R says φ post said os k =
       nothing ! $ use1 W (raw (G .pre x)) asks $ calls-at ! fm G met x os (λ v.
       use1 W (later (some (λ (r : R .Denot). (‵ ftrue ⊛ ‵ (R .own r (v ∷ []))) ⊛ raw (says r)))) (post v) $ await ! tt $ pick ! (λ r.
-      split ! $ move ! (1 ∷ []) $ use1 W (raw (fact 𝓤 (φ r))) (said r) $ heard ! (φ r) (λ e. split ! $ drop ! $ facts ! R (Is R) (shows 𝓤 H A R) r (v ∷ []) (λ is. k r v e is))))
+      split ! $ move ! (1 ∷ []) $ use1 W (raw (fact 𝓤 (φ r))) (said r) $
+      heard ! (φ r) (λ e. split ! $ drop ! $ facts ! R (Is R) (shows 𝓤 H A R) r (v ∷ []) (λ is. k r v e is))))
 
 module _ {M : Type 1} (𝓤 : URA M) where
   beside : (φ : Type 0) (P : SProp 𝓤) → φ → ent 𝓤 P (sep 𝓤 (fact 𝓤 φ) P)
