@@ -6,7 +6,8 @@ use Rattle.calls.specs.declared.Call.the-variants.{Sample, RemoteDisconn
 use Rattle.calls.specs.declared.Call.the-variants.{SetLimiter, SetClock, Event, SetAlarmFilter, SetErrorFilter, ClearAlarms, ClearErrors, ClearLog}
 use Rattle.calls.specs.declared.Call.the-variants.{Script, SetGroups, SetProfile}
 use Rattle.calls.specs.declared.Parsed.the-variants.{Ok, NoKind}
-use Rattle.calls.specs.Calls.{kindOf, signedOf, callOf, Signed, InRange}
+use mathlib.Core.List.{[], _∷_, map}
+use Rattle.calls.specs.Calls.{kindOf, signedOf, callOf, commandOf, Signed, InRange}
 use Rattle.calls.specs.Laws.{bitsOf, commandNaming, Laws}
 
 -- what was read of a kind: a call of that kind, which is one from 1 to 17, or none, and then it is none of them
@@ -75,5 +76,24 @@ call-named (Script n) h = refl
 call-named (SetGroups n a b c d) h = refl
 call-named (SetProfile i t a d) h = rw (signed-back t (h .1 .0))
 
+unused-ignored :
+    (a b c d e : ℕ)
+    → map (λ k. callOf (commandOf k a b c d e)) (1 ∷ 2 ∷ 3 ∷ 4 ∷ 5 ∷ 6 ∷ 7 ∷ 8 ∷ 9 ∷ 10 ∷ 11 ∷ 12 ∷ 13 ∷ 14 ∷ 15 ∷ 16 ∷ 17 ∷ [])
+    ≡ map Ok
+    (Sample (signedOf a) ∷ RemoteDisconnect ∷ RemoteReconnect ∷ ManualDisconnect ∷ ManualReconnect ∷ SetMode a ∷ SetLimiter (signedOf a) b c
+    ∷ SetClock a ∷ Event a ∷ SetAlarmFilter a ∷ SetErrorFilter a ∷ ClearAlarms a ∷ ClearErrors a ∷ ClearLog a ∷ Script a ∷ SetGroups a b c d e
+    ∷ SetProfile a (signedOf b) c d ∷ [])
+unfolding callOf
+unused-ignored a b c d e = refl
+
 pub laws : Laws
-laws = record { kind-named = kind-named; call-named = call-named; no-kind = no-kind; some-kind = some-kind }
+laws =
+    record {
+      kind-named = kind-named;
+      call-named = call-named;
+      no-kind = no-kind;
+      some-kind = some-kind;
+      unused-ignored = unused-ignored;
+      answer-numbers = λ n. (refl, refl);
+      letter-bytes = refl;
+    }

@@ -400,26 +400,41 @@ module _ (f : AnyFresh) (ps : List ℤ) (h : History) (w : Profile) (p : profile
       (none-changed f now (λ k. thresholdAt f k ps h) (λ k. thresholdInForce f k (sampled ps ∷ h)) (λ k. equal-at k (e k) ∙ sym (equal-after k (e k))))
       ∙ ap (λ (zs : List Line). when (eqb n 3) (xs ++ zs)) (append-nil ys)
 
-pub waiting-unlogged : (f : AnyFresh) (n : ℕ) (h : History) (v w : Profile) → profileState f h ≡ waiting v → owedBy f n (profileSet w) h ≡ []
-waiting-unlogged f n h v w e =
+-- kind 17 owes nothing where the normal threshold was in force
+normal-unlogged : (f : AnyFresh) (n : ℕ) (h : History) (w : Profile) → ((k : ℕ) → thresholdInForce f k h ≡ thresholdOf f k h)
+    → owedBy f n (profileSet w) h ≡ []
+normal-unlogged f n h w e =
     ap (when (eqb n 3))
     (none-changed f (clockOf f (profileSet w ∷ h)) (λ k. thresholdInForce f k h) (λ k. thresholdInForce f k (profileSet w ∷ h))
-    (λ k. ap (thresholdBy (thresholdOf f k h)) e ∙ sym (normal-at-once f k h w)))
+    (λ k. e k ∙ sym (normal-at-once f k h w)))
     ∙ nothing (eqb n 3)
   where
     nothing : (x : Bool) → when x [] ≡ []
     nothing true = refl
     nothing false = refl
 
+pub first-unlogged : (f : AnyFresh) (n : ℕ) (h : History) (w : Profile) → profileState f h ≡ noProfile → owedBy f n (profileSet w) h ≡ []
+first-unlogged f n h w e = normal-unlogged f n h w (λ k. ap (thresholdBy (thresholdOf f k h)) e)
+
+pub waiting-unlogged : (f : AnyFresh) (n : ℕ) (h : History) (v w : Profile) → profileState f h ≡ waiting v → owedBy f n (profileSet w) h ≡ []
+waiting-unlogged f n h v w e = normal-unlogged f n h w (λ k. ap (thresholdBy (thresholdOf f k h)) e)
+
 -- an active profile's threshold is in force
 pub active-in-force : (f : AnyFresh) (k : ℕ) (h : History) (w : Profile) (n : ℕ) → profileState f h ≡ active w n → thresholdInForce f k h ≡ w .threshold
 active-in-force f k h w n e = ap (thresholdBy (thresholdOf f k h)) e
 
-pub replaced-owes : (f : AnyFresh) (h : History) (v w : Profile) (n : ℕ) → profileState f h ≡ active v n
-    → owedBy f 3 (profileSet w) h ≡ when (any (λ k. not (eqZ (v .threshold) (thresholdOf f k h))) (monitoredValues f)) (line (clockOf f h) 67 ∷ [])
+pub replaced-owes : (f : AnyFresh) (n : ℕ) (h : History) (v w : Profile) (left : ℕ) → profileState f h ≡ active v left
+    → owedBy f n (profileSet w) h
+    ≡ when (eqb n 3 && any (λ k. not (eqZ (v .threshold) (thresholdOf f k h))) (monitoredValues f)) (line (clockOf f h) 67 ∷ [])
 unfolding last samplesSince
-replaced-owes f h v w n e =
-    ap₂ (changeLines f (clockOf f (profileSet w ∷ h))) (fun-ext (λ k. active-in-force f k h v n e)) (fun-ext (λ k. normal-at-once f k h w))
+replaced-owes f n h v w left e =
+    ap (when (eqb n 3))
+    (ap₂ (changeLines f (clockOf f (profileSet w ∷ h))) (fun-ext (λ k. active-in-force f k h v left e)) (fun-ext (λ k. normal-at-once f k h w)))
+    ∙ both (eqb n 3) _ _
+  where
+    both : (x y : Bool) (ls : List Line) → when x (when y ls) ≡ when (x && y) ls
+    both true y ls = refl
+    both false y ls = refl
 
 pub changed-run : (f : AnyFresh) (h : History) (before after : ℤ) (os : List Observation) → eqZ before after ≡ false → run (changeSeen f h before after ++ os) ≡ 0
 unfolding exceeded sinceSetting trailing

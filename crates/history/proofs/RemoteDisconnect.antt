@@ -3,25 +3,26 @@
 use Prim.Native.Nat.{ℕ}
 use native.Mathlib.Omega.{arith}
 use mathlib.Core.Path.{_≡_, refl, sym, ap, subst, _∙_}
-use mathlib.Core.Bool.{Bool, true, false, not, _&&_, _||_, cond, false≢true}
+use mathlib.Core.Bool.{Bool, true, false, not, _&&_, _||_, cond, false≢true, or-true, or-assoc}
 use mathlib.Core.List.{List, [], _∷_, _++_, append-assoc, map, reverse}
 use mathlib.Core.Logic.{_≢_, _⊎_, inl, inr}
 use mathlib.Core.Option.{Option}
 use lib.Dec.{eqb}
-use lib.IntN.{ℤ}
+use lib.IntN.{ℤ, pos}
 use Rattle.base.specs.Tests.{among, any}
-use Rattle.base.proofs.Bools.{neither}
+use Rattle.base.proofs.Bools.{by-test, neither}
 use Rattle.history.specs.Effects.{AnyFresh, RequestCall, remoteDisconnect, remoteReconnect, manualDisconnect, manualReconnect, Effect}
 use Rattle.history.specs.Effects.{sampled, requested, modeSet, limitsSet, clockSet, occurred, filterSet, bitsCleared, logCleared, groupsSet, profileSet}
 use Rattle.history.specs.Last.{History, otherwise, given, last, modeOf}
 use Rattle.history.specs.Limiter.{monitoredValues}
 use Rattle.history.specs.Switch.{spellEdge, spell, triesDisconnect, arms, observations, lastDecided, switchOf, exceededOf}
-use Rattle.history.specs.Splits.{NonePicks, Latest, samplesIn}
+use Rattle.history.specs.Splits.{NonePicks, Latest}
 use Rattle.history.specs.Account.{acceptedCalls}
 use Rattle.history.specs.OnePhase.{asFresh, asCall}
 use Rattle.history.specs.Laws.{underFiring}
 use Rattle.history.specs.Examples.{fresh, builtInAccount}
-use Rattle.history.specs.RemoteDisconnect.{AcceptedIn, NeverIn, UnderFiring, Closes, byKey, byFiring, Reconnected, ReconnectedAfterLast, Holds}
+use Rattle.history.specs.RemoteDisconnect.{AcceptedIn, NeverIn, UnderFiring, closingFiring, Closes, byKey, byFiring}
+use Rattle.history.specs.RemoteDisconnect.{Reconnected, ReconnectedAfterLast, Holds}
 use Rattle.history.specs.RemoteDisconnect.{reconnectTried, RemoteDisconnectHolds}
 use Rattle.history.proofs.Lists.{latest-or-none}
 use Rattle.history.proofs.Splits.{some≢none, isEdge, begins, given-some}
@@ -103,7 +104,7 @@ module _ (f : AnyFresh) (before : History) where
       → Stage (e ∷ later)
   now-closed e r c =
       let q = ap whole (r .split) ∙ append-assoc (r .later) (requested remoteReconnect ∷ r .before) (requested remoteDisconnect ∷ before) in
-      closed (record { reconnect = still-in e r; closing = e; afterThat = newest-in refl; closes = subst (Closes (reconnectTried f) f e) q c })
+      closed (record { reconnect = still-in e r; closing = e; afterThat = newest-in refl; closes = search (← q) })
 
   -- a call that leaves the spell and decides nothing
   leaving : (e : Effect) (later : History) → spell (whole (e ∷ later)) ≡ spell (whole later)
@@ -132,7 +133,7 @@ module _ (f : AnyFresh) (before : History) where
           ⊎ ((reconnectTried f ps (whole later) ≡ true) × (among (5 ∷ 6 ∷ []) (modeOf f (whole later)) ≡ true))
           → Stage (sampled ps ∷ later)
       go (inl q) = ready o q (still-in (sampled ps) r)
-      go (inr (t, m)) = now-closed (sampled ps) r (byFiring ps refl t m)
+      go (inr (t, m)) = now-closed (sampled ps) r (byFiring ps refl cc)
   sampling ps later (closed c) = still-closed (sampled ps) c
 
   requesting : (q : RequestCall) (later : History) → q ≢ remoteDisconnect → among (2 ∷ 4 ∷ []) (modeOf f (whole later)) ≡ false → Stage later
@@ -182,7 +183,7 @@ any-holds f h v a q = go (last-disconnect h a)
     go : LastIn h → ReconnectedAfterLast (reconnectTried f) f h
     go (d, n) =
         let stage = stages f (d .before) (d .later) n (rw (d .split) at v) in
-        record { disconnect = d; isLast = n; reconnected = supplied f (d .before) (d .later) stage (rw (d .split) at q) }
+        record { disconnect = d; isLast = λ a. absurd (n a); reconnected = supplied f (d .before) (d .later) stage (rw (d .split) at q) }
 
 -- ---- with one monitored value h is tried where that fires under
 one-tried : (f : AnyFresh) → monitoredValues f ≡ 0 ∷ [] → (ps : List ℤ) (h : History) → reconnectTried f ps h ≡ underFiring f ps h
@@ -194,73 +195,130 @@ one-tried f one ps h = rw one (go (exceededOf f 0 h) (exceededOf f 0 (sampled ps
     go true false = refl
     go false y = refl
 
-one-closes : (f : AnyFresh) → monitoredValues f ≡ 0 ∷ [] → {e : Effect} {h : History} → Closes (reconnectTried f) f e h
-    → Closes (underFiring f) f e h
-one-closes f one (byKey q) = byKey q
-one-closes f one {e} {h} (byFiring ps q t m) = byFiring ps q (sym (one-tried f one ps h) ∙ t) m
-
 one-holds : (f : AnyFresh) → monitoredValues f ≡ 0 ∷ [] → (h : History) → Holds (underFiring f) excluded f h (switchOf f h)
-one-holds f one h v a q =
-    let l = any-holds f h v a q in
-    let r = l .reconnected in
-    let c = one-closes f one (r .closes) in
-    record {
-      disconnect = l .disconnect;
-      isLast = l .isLast;
-      reconnected = record { reconnect = r .reconnect; closing = r .closing; afterThat = r .afterThat; closes = c };
-    }
+one-holds f one h = subst (λ (fires : UnderFiring). Holds fires excluded f h (switchOf f h)) (λ i ps h. one-tried f one ps h i) (any-holds f h)
 
--- ---- none of the three modes can be left out
--- what is true of no call of a history is not true of one among them, nor of any after that
-tested : (p : Effect → Bool) {e : Effect} {h : History} → any p h ≡ false → (a : AcceptedIn e h) → (any p (a .later) ≡ false) × (p e ≡ false)
+-- ---- lists of which it is false
+-- what is true of no call of a history is not true of one among them, nor of any after or before that
+tested :
+    (p : Effect → Bool) {e : Effect} {h : History}
+    → any p h ≡ false
+    → (a : AcceptedIn e h)
+    → (any p (a .later) ≡ false) × (p e ≡ false) × (any p (a .before) ≡ false)
 unfolding any
 tested p {e} q a = go (a .later) (rw (a .split) at q)
   where
-    go : (later : History) → any p (later ++ (e ∷ a .before)) ≡ false → (any p later ≡ false) × (p e ≡ false)
-    go [] r = (refl, neither (p e) (any p (a .before)) r .0)
-    go (x ∷ later) r = let s = neither (p x) _ r in let t = go later (s .1) in (rw (s .0) (t .0), t .1)
+    go : (later : History) → any p (later ++ (e ∷ a .before)) ≡ false → (any p later ≡ false) × (p e ≡ false) × (any p (a .before) ≡ false)
+    go [] r = let s = neither (p e) (any p (a .before)) r in (refl, s .0, s .1)
+    go (x ∷ later) r = let s = neither (p x) _ r in let t = go later (s .1) in (rw (s .0) (t .0), t .1, t .2)
 
--- only a manual reconnect or a sample closes
-abbrev mayClose : Effect → Bool
-mayClose e = arms e 2 || eqb (samplesIn (e ∷ [])) 1
+abbrev disconnects : Effect → Bool
+disconnects e = isEdge true (spellEdge e [])
 
-may-close : {fires : UnderFiring} {f : AnyFresh} {e : Effect} {h : History} → Closes fires f e h → mayClose e ≡ true
-unfolding samplesIn
-may-close (byKey q) = ap mayClose q
-may-close (byFiring ps q t m) = ap mayClose q
+no-disconnect : (h : History) → ¬ AcceptedIn (requested remoteDisconnect) h → any disconnects h ≡ false
+unfolding any
+no-disconnect [] n = refl
+no-disconnect (e ∷ h) n =
+    by-test (disconnects e) (λ q. absurd (n (newest-in (begins e [] q)))) (λ q. rw q (no-disconnect h (λ a. n (still-in e a))))
 
--- no call of h sets one of the modes, none may close, and yet the switch is 1
+module _ (fires : UnderFiring) (f : AnyFresh) where
+  -- a manual reconnect, or a closing firing
+  abbrev closesAt : Effect → History → Bool
+  closesAt (sampled ps) h = closingFiring fires f ps h
+  closesAt (requested q) h = arms (requested q) 2
+  closesAt (modeSet n) h = false
+  closesAt (limitsSet t o u) h = false
+  closesAt (clockSet n) h = false
+  closesAt (occurred r) h = false
+  closesAt (filterSet s n) h = false
+  closesAt (bitsCleared s n) h = false
+  closesAt (logCleared n) h = false
+  closesAt (groupsSet g) h = false
+  closesAt (profileSet w) h = false
+
+  closes-at : {e : Effect} {h : History} → Closes fires f e h → closesAt e h ≡ true
+  closes-at {h = h} (byKey q) = ap (λ (e : Effect). closesAt e h) q
+  closes-at {h = h} (byFiring ps q t) = ap (λ (e : Effect). closesAt e h) q ∙ t
+
+  -- from the newest call back to the last disconnect: c, one of the calls seen closes; r, a remote reconnect was seen behind such a one. (Mode 0, which ends
+  -- a spell too, is taken for one: the test need only be true wherever the conclusion is)
+  unfoldable scan : Bool → Bool → History → Bool
+  scan c r [] = false
+  scan c r (e ∷ h) = cond (disconnects e) r (scan (c || closesAt e h) (r || (isEdge false (spellEdge e []) && c)) h)
+
+  -- calls that are no disconnect leave c and r true where they are
+  past :
+      (c r : Bool) (newer older : History)
+      → any disconnects newer ≡ false
+      → ((x y : Bool) → scan (c || x) (r || y) older ≡ true)
+      → (x y : Bool)
+      → scan (c || x) (r || y) (newer ++ older) ≡ true
+  unfolding any scan
+  past c r [] older n k x y = k x y
+  past c r (e ∷ newer) older n k x y =
+      let s = neither (disconnects e) _ n in
+      rw (s .0, or-assoc c x, or-assoc r y) (past c r newer older (s .1) k _ _)
+
+  -- where the conclusion holds, here in its pieces, the test is true
+  found :
+      {e : Effect} {h : History} (d : AcceptedIn (requested remoteDisconnect) h)
+      → ¬ AcceptedIn (requested remoteDisconnect) (d .later)
+      → (r : AcceptedIn (requested remoteReconnect) (d .later)) (a : AcceptedIn e (r .later))
+      → Closes fires f e (a .before ++ (requested remoteReconnect ∷ (r .before ++ (requested remoteDisconnect ∷ d .before))))
+      → scan false false h ≡ true
+  unfolding scan
+  found d l r a c =
+      let n = tested disconnects (no-disconnect (d .later) l) r in
+      let m = tested disconnects (n .0) a in
+      rw (d .split, r .split, a .split)
+      (simp append-assoc
+      (past false false (a .later) _ (m .0)
+      (λ x y.
+      rw (m .1, closes-at c, or-true x)
+      (past true false (a .before) _ (m .2) (λ u v. rw (or-true v) (past true true (r .before) _ (n .2) (λ _ _. refl) false false)) false _)) false false))
+
+-- by the test the conclusion is false of the accepted calls, and yet none sets one of the modes and the switch is 1
 broken :
-    {fires : UnderFiring} (modes : List ℕ) (f : AnyFresh) (h : History) {switch : ℕ}
+    {fires : UnderFiring} (modes : List ℕ) (f : AnyFresh) (later before : History) {switch : ℕ}
     → among modes (f .mode) ≡ false
-    → any (λ e. among modes (modeOf f (e ∷ []))) h ≡ false
-    → any mayClose h ≡ false
-    → AcceptedIn (requested remoteDisconnect) h
+    → any (λ e. among modes (modeOf f (e ∷ []))) (whole f before later) ≡ false
     → switch ≡ 1
-    → ¬ Holds fires modes f h switch
+    → scan fires f false false (whole f before later) ≡ false
+    → (ReconnectedAfterLast fires f (whole f before later) → scan fires f false false (whole f before later) ≡ true)
+    → ¬ Holds fires modes f (whole f before later) switch
 unfolding last
-broken modes f h m l k d q holds =
-    let r = holds (record { freshMode = m; laterModes = λ n a. tested _ l a .1 }) d q in
-    let c = r .reconnected in
-    let none = tested mayClose (tested mayClose (tested mayClose k (r .disconnect) .0) (c .reconnect) .0) (c .afterThat) .1 in
-    false≢true (sym none ∙ may-close (c .closes))
+broken modes f later before m l q k scanned holds =
+    let c = holds (record { freshMode = m; laterModes = λ n a. tested _ l a .1 }) (record { later = later; before = before; split = refl }) q in
+    false≢true (sym k ∙ scanned c)
 
--- the lists that break it: their fresh meters and accepted calls
+-- the fresh meters and accepted calls of the lists
 abbrev inMode : ℕ → AnyFresh
 inMode m = asFresh (fresh m 0 1 1 0)
 
-abbrev reconnected : History
-reconnected = requested remoteReconnect ∷ requested remoteDisconnect ∷ []
+abbrev limited : ℕ → AnyFresh
+limited m = asFresh (fresh m 3 1 1 0)
+
+abbrev key : Effect
+key = requested manualReconnect
+
+abbrev remote : Effect
+remote = requested remoteReconnect
 
 pub remote-disconnect-holds : RemoteDisconnectHolds
-unfolding builtInAccount samplesIn
+unfolding builtInAccount scan
 remote-disconnect-holds =
     record {
       anyHolds = λ rows f calls. any-holds f (acceptedCalls rows f (reverse calls));
       onePhaseHolds =
           λ rows f calls.
           one-holds (asFresh f) (one-value (asFresh f) (f .threshold) refl) (acceptedCalls rows (asFresh f) (reverse (map asCall calls)));
-      zeroNeeded = broken (2 ∷ 4 ∷ []) (inMode 1) (modeSet 0 ∷ requested remoteDisconnect ∷ []) refl refl refl (still-in _ (newest-in refl)) refl;
-      twoNeeded = broken (0 ∷ 4 ∷ []) (inMode 2) reconnected refl refl refl (still-in _ (newest-in refl)) refl;
-      fourNeeded = broken (0 ∷ 2 ∷ []) (inMode 1) (reconnected ++ (modeSet 4 ∷ [])) refl refl refl (still-in _ (newest-in refl)) refl;
+      zeroNeeded = broken (2 ∷ 4 ∷ []) (inMode 1) (modeSet 0 ∷ []) [] refl refl refl refl (λ l. search found);
+      twoNeeded = broken (0 ∷ 4 ∷ []) (inMode 2) (remote ∷ []) [] refl refl refl refl (λ l. search found);
+      fourNeeded = broken (0 ∷ 2 ∷ []) (inMode 1) (remote ∷ []) (modeSet 4 ∷ []) refl refl refl refl (λ l. search found);
+      lastNeeded =
+          broken (2 ∷ 4 ∷ []) (inMode 1) (modeSet 0 ∷ []) (key ∷ remote ∷ requested remoteDisconnect ∷ []) refl refl refl refl (λ l. search found);
+      orderNeeded = broken (2 ∷ 4 ∷ []) (inMode 1) (modeSet 0 ∷ remote ∷ key ∷ []) [] refl refl refl refl (λ l. search found);
+      firingNeeded = broken (2 ∷ 4 ∷ []) (limited 5) (modeSet 0 ∷ sampled (pos 0 ∷ []) ∷ remote ∷ []) [] refl refl refl refl (λ l. search found);
+      modeNeeded =
+          broken (2 ∷ 4 ∷ []) (limited 1) (modeSet 0 ∷ sampled (pos 3 ∷ []) ∷ remote ∷ []) (sampled (pos 9 ∷ []) ∷ []) refl refl refl refl (λ l. search found);
     }

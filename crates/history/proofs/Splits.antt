@@ -199,7 +199,7 @@ pub switch-inside : (f : AnyFresh) (h : History) → InSpell h → switchOf f h 
 unfolding switchOf
 switch-inside f h i = rw (spell-split h .1 i)
 
-outside : (h : History) → ¬ InSpell h → spell h ≡ false
+pub outside : (h : History) → ¬ InSpell h → spell h ≡ false
 outside h n = go (spell h) refl
   where
     go : (s : Bool) → spell h ≡ s → spell h ≡ false

@@ -3,7 +3,7 @@
 use Prim.Native.Nat.{ℕ}
 use mathlib.Core.Path.{_≡_}
 use mathlib.Core.Bool.{Bool, true, false}
-use mathlib.Core.Option.{none}
+use mathlib.Core.Option.{none, some}
 use mathlib.Core.List.{List, [], _∷_, _++_, map}
 use lib.IntN.{pos, negsuc}
 use lib.ListN.{getD, replicate}
@@ -103,6 +103,14 @@ ownRows = plain 2 6 ∷ alarming 1 20 5 ∷ bothBits 2 68 0 ∷ []
 abbrev pub byOwnTable : List Call → ℕ × ℕ × List (List ℕ)
 byOwnTable calls = let a = account ownRows (fresh 1 3 1 1 1000) calls in (a .alarms, a .errors, map codes (a .logs))
 
+-- document 02, A8: an event table of one line, whose bits are the alarms' last one and an error bit that the built-in table has not
+abbrev pub highRows : List EventRow
+highRows = record { code = 20; log = 3; alarm = some 31; error = some 16 } ∷ []
+
+-- alarms, how many stand, and errors, by that table
+abbrev pub byHighBits : List Call → ℕ × ℕ × ℕ
+byHighBits calls = let a = account highRows (fresh 1 3 1 1 1000) calls in (a .alarms, a .alarmCount, a .errors)
+
 -- the histories, by the sentence that each shows
 pub record Histories : Type 0 where
   -- 'a call's refusal follows from its numbers and the mode last accepted'
@@ -110,13 +118,15 @@ pub record Histories : Type 0 where
       map (answer (fresh 3 0 1 1 0) [])
       (SetMode 6 ∷ SetMode 7 ∷ SetMode 256 ∷ RemoteDisconnect ∷ ManualDisconnect ∷ Script 0 ∷ Script 1 ∷ Script 2 ∷ Script 257
       ∷ SetLimiter (pos 0) 86400 1 ∷ SetLimiter (negsuc 0) 0 0 ∷ SetLimiter (pos 0) 86401 1 ∷ SetLimiter (pos 0) 1 0
-      ∷ Event 68 ∷ Event 3 ∷ Event 262 ∷ ClearLog 3 ∷ ClearLog 0 ∷ ClearLog 257 ∷ [])
-      ≡ 0 ∷ 1 ∷ 1 ∷ 0 ∷ 2 ∷ 3 ∷ 0 ∷ 0 ∷ 3 ∷ 0 ∷ 4 ∷ 5 ∷ 5 ∷ 0 ∷ 6 ∷ 6 ∷ 0 ∷ 7 ∷ 7 ∷ []
+      ∷ Event 68 ∷ Event 3 ∷ Event 262 ∷ ClearLog 3 ∷ ClearLog 0 ∷ ClearLog 257 ∷ ClearLog 1 ∷ ClearLog 2 ∷ ClearLog 4 ∷ [])
+      ≡ 0 ∷ 1 ∷ 1 ∷ 0 ∷ 2 ∷ 3 ∷ 0 ∷ 0 ∷ 3 ∷ 0 ∷ 4 ∷ 5 ∷ 5 ∷ 0 ∷ 6 ∷ 6 ∷ 0 ∷ 7 ∷ 7 ∷ 0 ∷ 0 ∷ 7 ∷ []
   -- 'calls 2–5, also by script: mode not in the switch table for that request'
   pub mode-rule :
-      map answersByMode (RemoteDisconnect ∷ RemoteReconnect ∷ ManualDisconnect ∷ ManualReconnect ∷ Script 1 ∷ [])
+      map answersByMode (RemoteDisconnect ∷ RemoteReconnect ∷ ManualDisconnect ∷ ManualReconnect ∷ Script 1 ∷ Script 2 ∷ [])
       ≡ (2 ∷ 0 ∷ 0 ∷ 0 ∷ 0 ∷ 0 ∷ 0 ∷ []) ∷ (2 ∷ 0 ∷ 0 ∷ 0 ∷ 0 ∷ 0 ∷ 0 ∷ []) ∷ (2 ∷ 0 ∷ 0 ∷ 2 ∷ 2 ∷ 0 ∷ 2 ∷ []) ∷ (2 ∷ 0 ∷ 0 ∷ 0 ∷ 0 ∷ 0 ∷ 0 ∷ [])
-      ∷ (2 ∷ 0 ∷ 0 ∷ 0 ∷ 0 ∷ 0 ∷ 0 ∷ []) ∷ []
+      ∷ (2 ∷ 0 ∷ 0 ∷ 0 ∷ 0 ∷ 0 ∷ 0 ∷ []) ∷ (2 ∷ 0 ∷ 0 ∷ 0 ∷ 0 ∷ 0 ∷ 0 ∷ []) ∷ []
+  -- 'script | 3 | not 1 or 2', before the mode rule: in mode 0
+  pub script-first : map (answer (fresh 0 0 1 1 0) []) (Script 0 ∷ Script 1 ∷ Script 2 ∷ Script 3 ∷ []) ≡ 3 ∷ 2 ∷ 2 ∷ 3 ∷ []
   -- the clock: 'last set, else fresh, plus samples since, held'
   pub clock-of-samples : builtInAccount (fresh 1 0 1 1 1000) (Sample (pos 0) ∷ Event 1 ∷ Sample (pos 0) ∷ []) .clock ≡ 1002
   pub clock-set : builtInAccount (fresh 1 0 1 1 1000) (Sample (pos 0) ∷ SetClock 50 ∷ Sample (pos 0) ∷ Sample (pos 0) ∷ []) .clock ≡ 52
@@ -128,6 +138,8 @@ pub record Histories : Type 0 where
   -- 'a full under stretch likewise with Under and samples not over'
   pub under-short : limiterValues (fresh 6 3 1 3 1000) (overSample ∷ underSample ∷ underSample ∷ []) ≡ (1, 3, true, 2)
   pub under-full : limiterValues (fresh 6 3 1 3 1000) (overSample ∷ underSample ∷ underSample ∷ underSample ∷ []) ≡ (1, 3, false, 0)
+  -- 'Exceeded: .. an over one sets 0'
+  pub under-broken : limiterValues (fresh 6 3 1 3 1000) (overSample ∷ underSample ∷ underSample ∷ overSample ∷ []) ≡ (1, 3, true, 0)
   -- 'none of them before those were set', by place in the list: the same numbers set again begin anew
   pub setting-again : limiterValues (fresh 6 3 3 3 1000) (overSample ∷ SetLimiter (pos 3) 3 3 ∷ []) ≡ (3, 3, false, 0)
   pub stretch-since-setting : limiterValues (fresh 6 3 2 2 1000) (overSample ∷ SetLimiter (pos 3) 2 2 ∷ overSample ∷ []) ≡ (2, 2, false, 1)
@@ -249,13 +261,24 @@ pub record Histories : Type 0 where
   pub raised : registerValues (Event 6 ∷ Event 16 ∷ Event 40 ∷ Event 1 ∷ []) ≡ (10241, 0, 2049, 0)
   -- 'A bit that is one in the filter at that moment is hidden and not set'
   pub hidden : registerValues (SetAlarmFilter 1 ∷ Event 6 ∷ Event 7 ∷ SetAlarmFilter 0 ∷ []) ≡ (2, 0, 3, 0)
+  -- '.. (003, 6.7, for errors; alarms alike)'
+  pub hidden-errors : registerValues (SetErrorFilter 1 ∷ Event 6 ∷ Event 7 ∷ SetErrorFilter 0 ∷ []) ≡ (3, 0, 2, 0)
   -- 'A later filter neither sets nor clears'
   pub later-filter : registerValues (Event 6 ∷ SetAlarmFilter 1 ∷ SetErrorFilter 3 ∷ []) ≡ (1, 1, 1, 3)
   -- 'no clear of it .. came later'
   pub cleared : registerValues (Event 6 ∷ Event 7 ∷ ClearAlarms 1 ∷ []) ≡ (2, 0, 3, 0)
+  pub cleared-errors : registerValues (Event 6 ∷ Event 7 ∷ ClearErrors 1 ∷ []) ≡ (3, 0, 2, 0)
+  -- 'ones clear': also bits that the filter would hide by then
+  pub cleared-hidden :
+      registerValues (Event 6 ∷ Event 7 ∷ SetAlarmFilter 1 ∷ SetErrorFilter 3 ∷ ClearAlarms 1 ∷ ClearErrors 2 ∷ []) ≡ (2, 1, 1, 3)
   pub raised-again : registerValues (Event 6 ∷ ClearAlarms 1 ∷ ClearErrors 1 ∷ Event 6 ∷ []) ≡ (1, 0, 1, 0)
   -- 'error bit 0: nor clock setting'; alarm bit 0 and error bit 1 stand
   pub cleared-by-clock : registerValues (Event 6 ∷ Event 7 ∷ SetClock 5 ∷ []) ≡ (3, 0, 2, 0)
+  pub cleared-by-clock-hidden : registerValues (Event 6 ∷ SetErrorFilter 1 ∷ SetClock 5 ∷ []) ≡ (1, 0, 0, 1)
+  -- document 02, A8: '.. a bit of 32 to 254' is refused, so bits up to 31 are raised, counted and cleared
+  pub high-bits :
+      map byHighBits ((Event 20 ∷ []) ∷ (SetAlarmFilter 2147483648 ∷ Event 20 ∷ []) ∷ (Event 20 ∷ ClearAlarms 2147483648 ∷ ClearErrors 65536 ∷ []) ∷ [])
+      ≡ (2147483648, 1, 65536) ∷ (0, 0, 65536) ∷ (0, 0, 0) ∷ []
   -- document 02, A6: three alarms, one raised twice; a hidden one is not raised; one that a later filter would hide stands; a clear of one
   -- that stands and one that does not, and one of every bit
   pub alarm-counts :
@@ -273,6 +296,10 @@ pub record Histories : Type 0 where
       logLines (fresh 1 3 1 1 1000)
       (SetClock 50 ∷ ClearAlarms 0 ∷ Sample (pos 0) ∷ ClearErrors 0 ∷ Event 6 ∷ Event 40 ∷ Event 68 ∷ SetErrorFilter 1 ∷ Event 6 ∷ [])
       ≡ (line 1000 4 ∷ line 50 5 ∷ line 50 11 ∷ line 51 10 ∷ line 51 6 ∷ line 51 6 ∷ []) ∷ (line 51 40 ∷ []) ∷ (line 51 68 ∷ []) ∷ []
+  -- lines 4 and 5 where the clock stays, an event whose bits are all hidden, lines 11 and 10 where the mask is not 0
+  pub lines-whatever :
+      getD (logLines (fresh 1 3 1 1 1000) (SetClock 1000 ∷ SetAlarmFilter 1 ∷ SetErrorFilter 1 ∷ Event 6 ∷ ClearAlarms 1 ∷ ClearErrors 4294967295 ∷ [])) 0 []
+      ≡ line 1000 4 ∷ line 1000 5 ∷ line 1000 6 ∷ line 1000 11 ∷ line 1000 10 ∷ []
   -- 65 and 66 whatever the mode and position, 64 and 69 with a move alone; every line at the clock after the sample
   pub lines-of-firings :
       map (λ c. getD (logLines (fresh 5 3 1 1 1000) (c ∷ overSample ∷ underSample ∷ [])) 2 [])
@@ -444,3 +471,7 @@ pub record Histories : Type 0 where
       codes (disconnectLog 9 2 (profile 3 0 6 ∷ fourWatts ∷ fourWatts ∷ ManualReconnect ∷ fourWatts ∷ fourWatts ∷ [])) ≡ 67 ∷ 65 ∷ 64 ∷ 61 ∷ 65 ∷ 64 ∷ []
   pub key-leaves-profile :
       profileAfter 9 2 (profile 3 0 6 ∷ fourWatts ∷ fourWatts ∷ ManualReconnect ∷ fourWatts ∷ fourWatts ∷ []) ≡ active (profileWith 1 (pos 3) 0 6) 2
+  -- document 02, A3: 'Call 7 sets the normal threshold ..': that is what the account holds, also while a profile is active
+  pub normal-shown :
+      map (λ calls. builtInAccount (fresh 5 9 2 2 1000) (groups ∷ profile 3 0 5 ∷ fourWatts ∷ calls) .threshold) ([] ∷ (SetLimiter (pos 7) 2 2 ∷ []) ∷ [])
+      ≡ pos 9 ∷ pos 7 ∷ []

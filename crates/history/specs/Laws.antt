@@ -1,27 +1,30 @@
--- What holds of the account: its parts that speak of a last or latest call are the sentences of document 01, as splits of the history; the others are
--- plain in their definitions.
+-- What holds of the account: its parts that speak of a last or latest call are the sentences of document 01, as splits of the history; what each call
+-- sets, raises, clears, decides, owes and is refused for is said by the call rules, with the numbers of the documents.
 -- Lists of calls are the newest first.
-use Prim.Native.Nat.{ℕ, suc, _≤_, _<_}
+use Prim.Native.Nat.{ℕ, suc, _+_, _≤_, _<_, min}
 use mathlib.Core.Path.{_≡_}
 use mathlib.Core.Bool.{Bool, true, false, not, _&&_, cond}
 use mathlib.Core.List.{List, [], _∷_, _++_}
-use mathlib.Core.Logic.{_↔_, _≢_}
+use mathlib.Core.Logic.{_↔_, _≢_, _⊎_}
 use mathlib.Core.Option.{Option, none, some}
 use lib.Dec.{eqb}
-use lib.IntN.{ℤ}
-use lib.Signed.{ltZ}
-use lib.ListN.{length}
+use lib.IntN.{ℤ, pos}
+use lib.Signed.{leZ, ltZ}
+use lib.ListN.{length, take}
 use Rattle.base.specs.Bits.{bit, bitCount}
-use Rattle.base.specs.Tests.{among, any, eqZ, gathered}
+use Rattle.base.specs.Tests.{among, any, every, eqZ, gathered}
 use Rattle.events.specs.Line.{Line, line}
-use Rattle.events.specs.Table.{EventRow}
+use Rattle.events.specs.Table.{EventRow, lookup}
 use Rattle.calls.specs.declared.Letter.{Letter}
 use Rattle.calls.specs.declared.Letter.the-variants.{None}
-use Rattle.history.specs.Effects.{AnyFresh, AnyCall, remoteReconnect, manualDisconnect, manualReconnect, WhichRegister, alarms, Effect, sampled}
-use Rattle.history.specs.Effects.{requested}
-use Rattle.history.specs.Effects.{modeSet, limitsSet, profileSet, Profile, refused, reading}
+use Rattle.history.specs.Effects.{AnyFresh, AnyCall, remoteDisconnect, remoteReconnect, manualDisconnect, manualReconnect, WhichRegister, alarms}
+use Rattle.history.specs.Effects.{errors, Effect, sampled, requested, modeSet, limitsSet, clockSet, occurred, filterSet, bitsCleared, logCleared}
+use Rattle.history.specs.Effects.{groupsSet, profileSet, Profile, sample, request, setMode, setLimiter, setClock, event, setFilter, clearBits, clearLog}
+use Rattle.history.specs.Effects.{script, setGroups, setProfile, accepted, refused}
+use Rattle.history.specs.Effects.{reading}
 use Rattle.history.specs.Last.{History, given, modeIn, modeOf, Limits, limits, limitsIn, limitsOf, thresholdOf, numberAt, filterIn, filterOf, clockOf}
-use Rattle.history.specs.Profile.{groupsIn, groupsOf, profileIn, profileOf, ProfileState, noProfile, waiting, active, profileState, thresholdInForce, thresholdAt}
+use Rattle.history.specs.Profile.{groupsIn, groupsOf, profileIn, profileOf, ProfileState, noProfile, waiting, active}
+use Rattle.history.specs.Profile.{profileState, thresholdInForce, thresholdAt}
 use Rattle.history.specs.Limiter.{Observation, setting, judged, stretchEnds, exceeded, run, firesOver, firesUnder, monitoredValues}
 use Rattle.history.specs.Switch.{spell, settingOf, changeSeen, observations, decides, switchOf, exceededOf, runOf}
 use Rattle.history.specs.Registers.{raises, clears, stands, bitsOf, alarmCountOf}
@@ -52,16 +55,95 @@ lineAfter f ps h c = line (clockOf f (sampled ps ∷ h)) c
 abbrev pub Governs : History → Type 0
 Governs h = (w : Profile) → profileOf h ≡ some w → 1 ≤ w .duration
 
--- the sentences of 'The history account', of a fresh meter's account
+-- document 02, A13, whose 'line' is a monitored value: '.. if a line fired over ..': there is one that the sample makes exceeded
+pub record FiredOver (f : AnyFresh) (ps : List ℤ) (h : History) : Type 0 where
+  pub value : ℕ
+  pub isMonitored : value < length (f .thresholds)
+  pub wasNot : exceededOf f value h ≡ false
+  pub isNow : exceededOf f value (sampled ps ∷ h) ≡ true
+
+-- document 02, A13: '.. if a line fired under ..': there is one of which the sample ends Exceeded
+pub record FiredUnder (f : AnyFresh) (ps : List ℤ) (h : History) : Type 0 where
+  pub value : ℕ
+  pub isMonitored : value < length (f .thresholds)
+  pub was : exceededOf f value h ≡ true
+  pub isNotNow : exceededOf f value (sampled ps ∷ h) ≡ false
+
+-- document 02, A13: '.. and none remains exceeded'
+abbrev pub NoneExceeded : AnyFresh → History → Type 0
+NoneExceeded f h = (k : ℕ) → k < length (f .thresholds) → exceededOf f k h ≡ false
+
+-- document 02, A13: 'Each firing logs 65 or 66 in line order ..': the lines of the firings of n monitored values, the first of them k
+pub data FiringsInOrder (f : AnyFresh) (ps : List ℤ) (h : History) : ℕ → ℕ → List Line → Type 0 where
+  noneLeft : {k : ℕ} → FiringsInOrder f ps h k 0 []
+  firesOver65 : {k n : ℕ} {ls : List Line} → exceededOf f k h ≡ false → exceededOf f k (sampled ps ∷ h) ≡ true
+      → FiringsInOrder f ps h (suc k) n ls → FiringsInOrder f ps h k (suc n) (lineAfter f ps h 65 ∷ ls)
+  firesUnder66 : {k n : ℕ} {ls : List Line} → exceededOf f k h ≡ true → exceededOf f k (sampled ps ∷ h) ≡ false
+      → FiringsInOrder f ps h (suc k) n ls → FiringsInOrder f ps h k (suc n) (lineAfter f ps h 66 ∷ ls)
+  noFiring : {k n : ℕ} {ls : List Line} → exceededOf f k (sampled ps ∷ h) ≡ exceededOf f k h
+      → FiringsInOrder f ps h (suc k) n ls → FiringsInOrder f ps h k (suc n) ls
+
+-- the switch table, 'g local disconnect | 1–6 | 1 → 2 | 64' and 'h local reconnect | 5, 6 | 2 → 1 | 69': the line of a sample's move, once, by the
+-- positions before and after it
+pub data LocalMove (now : ℕ) : ℕ → ℕ → List Line → Type 0 where
+  opened64 : LocalMove now 1 2 (line now 64 ∷ [])
+  closed69 : LocalMove now 2 1 (line now 69 ∷ [])
+  noMove : {s : ℕ} → LocalMove now s s []
+
+-- document 02, A3: 'Whenever the threshold in force becomes another number, .. 67 is logged ..': once, for whichever of n monitored values it does
+pub data ThresholdChange (now n : ℕ) (before after : ℕ → ℤ) : List Line → Type 0 where
+  changed67 : (k : ℕ) → k < n → before k ≢ after k → ThresholdChange now n before after (line now 67 ∷ [])
+  unchanged : ((k : ℕ) → k < n → before k ≡ after k) → ThresholdChange now n before after []
+
+-- the lines of a sample: document 02, A3: '.. at the start before the sample is judged, at the end after the last governed one ..'; A13: '.. after all
+-- four lines g is tried once if a line fired over, h once if ..'
+pub record SampleLines (f : AnyFresh) (ps : List ℤ) (h : History) (ls : List Line) : Type 0 where
+  pub start : List Line
+  pub firings : List Line
+  pub move : List Line
+  pub end : List Line
+  pub inOrder : ls ≡ start ++ (firings ++ (move ++ end))
+  pub atStart :
+      ThresholdChange (clockOf f (sampled ps ∷ h)) (length (f .thresholds)) (λ k. thresholdInForce f k h) (λ k. thresholdAt f k ps h) start
+  pub eachFiring : FiringsInOrder f ps h 0 (length (f .thresholds)) firings
+  pub oneMove : LocalMove (clockOf f (sampled ps ∷ h)) (switchOf f h) (switchOf f (sampled ps ∷ h)) move
+  pub atEnd :
+      ThresholdChange (clockOf f (sampled ps ∷ h)) (length (f .thresholds)) (λ k. thresholdAt f k ps h) (λ k. thresholdInForce f k (sampled ps ∷ h)) end
+
+-- 'Two durations, Over and Under, 1 to 86,400 samples'
+abbrev pub InDays : ℕ → Type 0
+InDays n = (1 ≤ n) × (n ≤ 86400)
+
+-- document 02, A3: '16, duration outside 1 to 604,800, or threshold negative ..': neither
+abbrev pub Lasting : Profile → Type 0
+Lasting w = (1 ≤ w .duration) × (w .duration ≤ 604800) × (leZ (pos 0) (w .threshold) ≡ true)
+
+-- the sentences of 'The history account' and the call rules that it goes by, of a fresh meter's account
 pub record LawsOf (f : AnyFresh) : Type 0 where
   -- 'Mode ..: last accepted, else fresh ..'
   pub modeLast :
       (h : History) (m : ℕ)
       → (modeOf f h ≡ m) ↔ LatestElse modeIn (f .mode) h m
+  -- .. by call 6, and by no other call
+  pub modeSets :
+      (n : ℕ) (h : History)
+      → modeOf f (modeSet n ∷ h) ≡ n
+  pub othersKeepMode :
+      (e : Effect) (h : History)
+      → ((n : ℕ) → e ≢ modeSet n)
+      → modeOf f (e ∷ h) ≡ modeOf f h
   -- '.. limiter settings ..: last accepted, else fresh ..'
   pub limitsLast :
       (h : History) (l : Limits)
       → (limitsOf f h ≡ l) ↔ LatestElse limitsIn (limits (f .thresholds) (f .over) (f .under)) h l
+  -- .. by call 7, and by no other call
+  pub limitsSets :
+      (ts : List ℤ) (o u : ℕ) (h : History)
+      → limitsOf f (limitsSet ts o u ∷ h) ≡ limits ts o u
+  pub othersKeepLimits :
+      (e : Effect) (h : History)
+      → ((ts : List ℤ) (o u : ℕ) → e ≢ limitsSet ts o u)
+      → limitsOf f (e ∷ h) ≡ limitsOf f h
   -- '.. filters: last accepted, else .. (filters 0)'
   pub filterLast :
       (s : WhichRegister) (h : History) (n : ℕ)
@@ -70,6 +152,19 @@ pub record LawsOf (f : AnyFresh) : Type 0 where
   pub clockLast :
       (h : History) (t : ℕ)
       → (clockOf f h ≡ t) ↔ ClockSince f h t
+  -- .. by call 8; a sample adds 1, 'held at 4,294,967,295'; and no other call moves it
+  pub clockSets :
+      (t : ℕ) (h : History)
+      → t ≤ 4294967295
+      → clockOf f (clockSet t ∷ h) ≡ t
+  pub sampleAdvances :
+      (ps : List ℤ) (h : History)
+      → clockOf f (sampled ps ∷ h) ≡ min (clockOf f h + 1) 4294967295
+  pub othersKeepClock :
+      (e : Effect) (h : History)
+      → ((ps : List ℤ) → e ≢ sampled ps)
+      → ((t : ℕ) → e ≢ clockSet t)
+      → clockOf f (e ∷ h) ≡ clockOf f h
   -- 'A spell runs from an accepted remote disconnect to the next accepted remote reconnect or mode 0'
   pub spellRuns :
       (h : History)
@@ -117,6 +212,22 @@ pub record LawsOf (f : AnyFresh) : Type 0 where
       → e ≢ requested manualDisconnect
       → e ≢ requested manualReconnect
       → decides f e h ≡ none
+  -- '.. over firing outside mode 0 .. give 2', document 02, A13: 'g is tried once if a line fired over ..': whichever of them it is
+  pub overDecides :
+      (ps : List ℤ) (h : History)
+      → ¬ InSpell h
+      → (decides f (sampled ps) h ≡ some 2) ↔ (FiredOver f ps h × (modeOf f h ≢ 0))
+  -- '.. under firing in mode 5 or 6 .. give 1', document 02, A13: 'h once if a line fired under and none remains exceeded': not one of them
+  pub underDecides :
+      (ps : List ℤ) (h : History)
+      → ¬ InSpell h
+      → (decides f (sampled ps) h ≡ some 1)
+      ↔ (FiredUnder f ps h × (NoneExceeded f (sampled ps ∷ h) × ((modeOf f h ≡ 5) ⊎ (modeOf f h ≡ 6))))
+  -- '.. give 1; .. give 2': a sample decides no other position
+  pub sampleDecidesNoOther :
+      (ps : List ℤ) (h : History) (v : ℕ)
+      → decides f (sampled ps) h ≡ some v
+      → (v ≡ 1) ⊎ (v ≡ 2)
   -- 'Calls inside a spell decide nothing': all but the two that end it
   pub insideDecidesNothing :
       (e : Effect) (h : History)
@@ -128,6 +239,41 @@ pub record LawsOf (f : AnyFresh) : Type 0 where
   pub bitStands :
       (s : WhichRegister) (b : ℕ) (h : History)
       → (stands s b h ≡ true) ↔ Ongoing (raises s b) (λ e h. clears s b e) h
+  -- 'Fresh ..: .. all else zero or empty'
+  pub freshStands :
+      (s : WhichRegister) (b : ℕ)
+      → stands s b [] ≡ false
+  -- call 9: '.. then its bits. A bit that is one in the filter at that moment is hidden and not set', and the others stay ..
+  pub eventRaisesAlarm :
+      (b : ℕ) (r : EventRow) (h : History)
+      → (stands alarms b (occurred r ∷ h) ≡ true) ↔ ((stands alarms b h ≡ true) ⊎ ((r .alarm ≡ some b) × (bit (filterOf alarms h) b ≡ false)))
+  -- .. '(003, 6.7, for errors; alarms alike)'
+  pub eventRaisesError :
+      (b : ℕ) (r : EventRow) (h : History)
+      → (stands errors b (occurred r ∷ h) ≡ true) ↔ ((stands errors b h ≡ true) ⊎ ((r .error ≡ some b) × (bit (filterOf errors h) b ≡ false)))
+  -- calls 12 and 13: 'ones clear', whatever the filter
+  pub clearedOnes :
+      (s : WhichRegister) (b n : ℕ) (h : History)
+      → (stands s b (bitsCleared s n ∷ h) ≡ true) ↔ ((stands s b h ≡ true) × (bit n b ≡ false))
+  -- call 8: 'error bit 0 is cleared'
+  pub clockClears :
+      (n : ℕ) (h : History)
+      → stands errors 0 (clockSet n ∷ h) ≡ false
+  -- events raise, clears of that register clear, and a clock setting clears error bit 0: no other call moves a bit
+  pub othersKeepBits :
+      (s : WhichRegister) (b : ℕ) (e : Effect) (h : History)
+      → ((r : EventRow) → e ≢ occurred r)
+      → ((n : ℕ) → e ≢ bitsCleared s n)
+      → ((n : ℕ) → s ≡ errors → b ≡ 0 → e ≢ clockSet n)
+      → stands s b (e ∷ h) ≡ stands s b h
+  -- calls 10 and 11: 'Set alarm, error filter', each its own, and no other call sets one
+  pub filterSets :
+      (s : WhichRegister) (n : ℕ) (h : History)
+      → filterOf s (filterSet s n ∷ h) ≡ n
+  pub othersKeepFilter :
+      (s : WhichRegister) (e : Effect) (h : History)
+      → ((n : ℕ) → e ≢ filterSet s n)
+      → filterOf s (e ∷ h) ≡ filterOf s h
   -- 'Alarm and error register .. (32 bits)': bit b of the register is one if it stands, else zero
   pub registerBits :
       (s : WhichRegister) (b : ℕ) (h : History)
@@ -177,6 +323,10 @@ pub record LawsOf (f : AnyFresh) : Type 0 where
   pub armedSince :
       (k : ℕ) (h : History) (os : List Observation)
       → (observations f k h ≡ os) ↔ SeenSince f k h os
+  -- document 02, A5: '.. that moves the switch ..': from 2, as row e of the switch table
+  pub manualReconnectMoves :
+      (h : History)
+      → moves f (requested manualReconnect) h ≡ eqb (switchOf f h) 2
   -- document 02, A5: '.. without a line': a manual reconnect that moves the switch owes its own 61 alone, any other nothing
   pub armedOwes :
       (n : ℕ) (h : History)
@@ -207,10 +357,116 @@ pub record LawsOf (f : AnyFresh) : Type 0 where
   pub owedLines :
       (n : ℕ) (h : History) (ls : List Line)
       → (owed f n h ≡ ls) ↔ OwedSince f n h ls
+  -- call 1: '.. log 65, then g is tried', '.. log 66, then h is tried', with several monitored values as document 02, A3 and A13, say; 'Lines 65–67 go to
+  -- log 3', and no other log gets a line
+  pub sampleOwesInOrder :
+      (ps : List ℤ) (h : History)
+      → SampleLines f ps h (owedBy f 3 (sampled ps) h)
+  pub sampleOwesNoOther :
+      (n : ℕ) (ps : List ℤ) (h : History)
+      → n ≢ 3
+      → owedBy f n (sampled ps) h ≡ []
+  -- calls 2 to 4, 'Line in log 3' of the switch table; document 02, A1: '.. now also moves 2 to 1 and logs 63'. Call 5's is armedOwes
+  pub remoteDisconnectOwes :
+      (n : ℕ) (h : History)
+      → owedBy f n (requested remoteDisconnect) h ≡ when (eqb n 3 && not (eqb (switchOf f h) 0)) (line (clockOf f h) 62 ∷ [])
+  pub remoteReconnectOwes :
+      (n : ℕ) (h : History)
+      → owedBy f n (requested remoteReconnect) h
+      ≡ when (eqb n 3)
+      (cond (among (2 ∷ 4 ∷ []) (modeOf f h))
+      (when (not (eqb (switchOf f h) 1)) (line (clockOf f h) 63 ∷ []))
+      (when (eqb (switchOf f h) 0) (line (clockOf f h) 59 ∷ [])))
+  pub manualDisconnectOwes :
+      (n : ℕ) (h : History)
+      → owedBy f n (requested manualDisconnect) h ≡ when (eqb n 3 && eqb (switchOf f h) 1) (line (clockOf f h) 60 ∷ [])
+  -- call 6: 'Accepting mode 0 sets switch 1 and, if it was not 1, logs 63. Other mode changes leave the switch'
+  pub modeOwes :
+      (n m : ℕ) (h : History)
+      → owedBy f n (modeSet m) h ≡ when (eqb n 3 && (eqb m 0 && not (eqb (switchOf f h) 1))) (line (clockOf f h) 63 ∷ [])
+  -- call 7: '.. log 67': 'Lines 65–67 go to log 3'
+  pub settingOwes :
+      (n : ℕ) (ts : List ℤ) (o u : ℕ) (h : History)
+      → owedBy f n (limitsSet ts o u) h ≡ when (eqb n 3) (line (clockOf f h) 67 ∷ [])
+  -- call 8: 'standard line 4 with the old clock, line 5 with the new', also where they are the same
+  pub clockOwes :
+      (n t : ℕ) (h : History)
+      → t ≤ 4294967295
+      → owedBy f n (clockSet t) h ≡ when (eqb n 1) (line (clockOf f h) 4 ∷ line t 5 ∷ [])
+  -- call 9: 'one line in its log', whatever the filters hide
+  pub eventOwes :
+      (n : ℕ) (r : EventRow) (h : History)
+      → owedBy f n (occurred r) h ≡ when (eqb n (r .log)) (line (clockOf f h) (r .code) ∷ [])
+  -- calls 12 and 13: 'standard line 11 or 10, mask 0 included'
+  pub clearAlarmsOwes :
+      (n m : ℕ) (h : History)
+      → owedBy f n (bitsCleared alarms m) h ≡ when (eqb n 1) (line (clockOf f h) 11 ∷ [])
+  pub clearErrorsOwes :
+      (n m : ℕ) (h : History)
+      → owedBy f n (bitsCleared errors m) h ≡ when (eqb n 1) (line (clockOf f h) 10 ∷ [])
+  -- call 14: 'it then holds one line 255', and the other logs get none
+  pub clearLogOwes :
+      (n m : ℕ) (h : History)
+      → owedBy f n (logCleared m) h ≡ when (eqb n m) (line (clockOf f h) 255 ∷ [])
+  -- calls 10 and 11 and document 02's kind 16 owe no line
+  pub unlogged :
+      (n : ℕ) (s : WhichRegister) (m : ℕ) (g : List ℕ) (h : History)
+      → (owedBy f n (filterSet s m) h ≡ []) × (owedBy f n (groupsSet g) h ≡ [])
+  -- 'Script: 1 is call 2, 2 is call 3', in every mode
+  pub scriptsNamed :
+      (rows : List EventRow) (m : ℕ) (g : List ℕ)
+      → (reading rows m g (script 1) ≡ reading rows m g (request remoteDisconnect))
+      × (reading rows m g (script 2) ≡ reading rows m g (request remoteReconnect))
+  -- 'Where a call stops' has no line for calls 1, 8 and 10 to 13: they are accepted with any numbers in every mode, each as itself
+  pub alwaysAccepted :
+      (rows : List EventRow) (m : ℕ) (g : List ℕ) (ps : List ℤ) (s : WhichRegister) (n : ℕ)
+      → (reading rows m g (sample ps) ≡ accepted (sampled ps))
+      × ((reading rows m g (setClock n) ≡ accepted (clockSet n))
+      × ((reading rows m g (setFilter s n) ≡ accepted (filterSet s n)) × (reading rows m g (clearBits s n) ≡ accepted (bitsCleared s n))))
+  -- 'script | 3 | not 1 or 2'
+  pub scriptsRefused :
+      (rows : List EventRow) (m : ℕ) (g : List ℕ) (n : ℕ)
+      → n ≢ 1
+      → n ≢ 2
+      → reading rows m g (script n) ≡ refused 3
+  -- '.. call 6 | 1 | mode above 6', each of the others being accepted
+  pub modesRead :
+      (rows : List EventRow) (m : ℕ) (g : List ℕ) (n : ℕ)
+      → (n ≤ 6 → reading rows m g (setMode n) ≡ accepted (modeSet n)) × (6 < n → reading rows m g (setMode n) ≡ refused 1)
+  -- '.. call 7 | 4 | threshold negative', '.. call 7 | 5 | Over or Under out of range', each of the others being accepted
+  pub limitsRead :
+      (rows : List EventRow) (m : ℕ) (g : List ℕ) (ts : List ℤ) (o u : ℕ)
+      → (every (leZ (pos 0)) ts ≡ false → reading rows m g (setLimiter ts o u) ≡ refused 4)
+      × (every (leZ (pos 0)) ts ≡ true → InDays o → InDays u → reading rows m g (setLimiter ts o u) ≡ accepted (limitsSet ts o u))
+      × (every (leZ (pos 0)) ts ≡ true → ¬ (InDays o × InDays u) → reading rows m g (setLimiter ts o u) ≡ refused 5)
+  -- 'call 9 | 6 | code not listed', by the table
+  pub eventsRead :
+      (rows : List EventRow) (m : ℕ) (g : List ℕ) (c : ℕ)
+      → (lookup rows c ≡ none → reading rows m g (event c) ≡ refused 6)
+      × ((r : EventRow) → lookup rows c ≡ some r → reading rows m g (event c) ≡ accepted (occurred r))
+  -- 'call 14 | 7 | log not 1–3', each of these being accepted
+  pub logsRead :
+      (rows : List EventRow) (m : ℕ) (g : List ℕ) (n : ℕ)
+      → (1 ≤ n → n ≤ 3 → reading rows m g (clearLog n) ≡ accepted (logCleared n))
+      × ((n ≡ 0) ⊎ (3 < n) → reading rows m g (clearLog n) ≡ refused 7)
+  -- document 02, A3: '14, more than eight ids (kind 16)', each smaller count being accepted
+  pub groupsRead :
+      (rows : List EventRow) (m : ℕ) (g : List ℕ) (n : ℕ) (ids : List ℕ)
+      → (n ≤ 8 → reading rows m g (setGroups n ids) ≡ accepted (groupsSet (take n ids))) × (8 < n → reading rows m g (setGroups n ids) ≡ refused 14)
+  -- document 02, A3: '15, id not in the group (kind 17); 16, duration outside 1 to 604,800, or threshold negative, after 15', any other being accepted
+  pub profilesRead :
+      (rows : List EventRow) (m : ℕ) (g : List ℕ) (w : Profile)
+      → (among g (w .id) ≡ false → reading rows m g (setProfile w) ≡ refused 15)
+      × (among g (w .id) ≡ true → ¬ Lasting w → reading rows m g (setProfile w) ≡ refused 16)
+      × (among g (w .id) ≡ true → Lasting w → reading rows m g (setProfile w) ≡ accepted (profileSet w))
   -- 'Openings: prefixes with switch 1 whose next call gives another ..': their number
   pub openingsCountPrefixes :
       (rows : List EventRow) (cs : List AnyCall)
       → openings rows f cs ≡ length (openingPrefixes rows f cs)
+  -- '.. held as above': at 4,294,967,295
+  pub openingsHeld :
+      (h : History) (n : ℕ)
+      → accountOf f h n .openings ≡ min n 4294967295
   -- '.. refused calls count for nothing ..': the whole list's openings are those of its accepted calls
   pub openingsAccepted :
       (rows : List EventRow) (cs : List AnyCall)
@@ -238,6 +494,14 @@ pub record LawsOf (f : AnyFresh) : Type 0 where
   pub groupsLast :
       (h : History) (g : List ℕ)
       → (groupsOf h ≡ g) ↔ LatestElse groupsIn [] h g
+  -- .. by kind 16, and by no other call
+  pub groupsSets :
+      (g : List ℕ) (h : History)
+      → groupsOf (groupsSet g ∷ h) ≡ g
+  pub othersKeepGroups :
+      (e : Effect) (h : History)
+      → ((g : List ℕ) → e ≢ groupsSet g)
+      → groupsOf (e ∷ h) ≡ groupsOf h
   -- document 02, A3: 'It replaces any earlier profile ..'
   pub profileLast :
       (h : History) (o : Option Profile)
@@ -299,6 +563,11 @@ pub record LawsOf (f : AnyFresh) : Type 0 where
   pub replacedSeen :
       (k : ℕ) (h : History) (w : Profile)
       → observations f k (profileSet w ∷ h) ≡ changeSeen f h (thresholdInForce f k h) (thresholdOf f k h) ++ observations f k h
+  -- .. and where there is none no line is owed
+  pub firstUnlogged :
+      (n : ℕ) (h : History) (w : Profile)
+      → profileState f h ≡ noProfile
+      → owedBy f n (profileSet w) h ≡ []
   -- .. and over one that waits no 67 is owed: the normal threshold was in force
   pub waitingUnlogged :
       (n : ℕ) (h : History) (v w : Profile)
@@ -306,9 +575,10 @@ pub record LawsOf (f : AnyFresh) : Type 0 where
       → owedBy f n (profileSet w) h ≡ []
   -- .. and over an active one a 67, once, if that puts another threshold in force for some monitored value
   pub replacedOwes :
-      (h : History) (v w : Profile) (n : ℕ)
-      → profileState f h ≡ active v n
-      → owedBy f 3 (profileSet w) h ≡ when (any (λ k. not (eqZ (v .threshold) (thresholdOf f k h))) (monitoredValues f)) (line (clockOf f h) 67 ∷ [])
+      (n : ℕ) (h : History) (v w : Profile) (left : ℕ)
+      → profileState f h ≡ active v left
+      → owedBy f n (profileSet w) h
+      ≡ when (eqb n 3 && any (λ k. not (eqZ (v .threshold) (thresholdOf f k h))) (monitoredValues f)) (line (clockOf f h) 67 ∷ [])
   -- document 02, A3: 'Whenever the threshold in force becomes another number, Run is 0 ..'
   pub changedRun :
       (h : History) (before after : ℤ) (os : List Observation)

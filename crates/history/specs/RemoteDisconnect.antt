@@ -2,13 +2,13 @@
 -- newest first: what came after a call stands in front of it.
 use Prim.Native.Nat.{ℕ}
 use mathlib.Core.Path.{_≡_}
-use mathlib.Core.Bool.{Bool, false, true}
+use mathlib.Core.Bool.{Bool, false, true, _&&_}
 use mathlib.Core.List.{List, [], _∷_, _++_, map, reverse}
-use lib.IntN.{ℤ}
+use lib.IntN.{ℤ, pos}
 use Rattle.base.specs.Tests.{among}
 use Rattle.events.specs.Table.{EventRow, builtIn}
 use Rattle.calls.specs.declared.Call.{Call}
-use Rattle.calls.specs.declared.Call.the-variants.{RemoteDisconnect, RemoteReconnect, SetMode}
+use Rattle.calls.specs.declared.Call.the-variants.{Sample, RemoteDisconnect, RemoteReconnect, ManualReconnect, SetMode}
 use Rattle.history.specs.Effects.{AnyFresh, AnyCall, remoteDisconnect, remoteReconnect, manualReconnect, Effect, sampled, requested}
 use Rattle.history.specs.Effects.{modeSet}
 use Rattle.history.specs.Last.{History, modeOf}
@@ -33,15 +33,14 @@ pub record NeverIn (modes : List ℕ) (f : AnyFresh) (h : History) : Type 0 wher
 abbrev pub UnderFiring : Type 0
 UnderFiring = List ℤ → History → Bool
 
+-- '.. an under firing in mode 5 or 6'
+abbrev pub closingFiring : UnderFiring → AnyFresh → UnderFiring
+closingFiring fires f powers h = fires powers h && among (5 ∷ 6 ∷ []) (modeOf f h)
+
 -- '.. an accepted manual reconnect, or an under firing in mode 5 or 6': the call e, made after those of h
 pub data Closes (fires : UnderFiring) (f : AnyFresh) (e : Effect) (h : History) : Type 0 where
   byKey : e ≡ requested manualReconnect → Closes fires f e h
-  byFiring :
-      (powers : List ℤ)
-      → e ≡ sampled powers
-      → fires powers h ≡ true
-      → among (5 ∷ 6 ∷ []) (modeOf f h) ≡ true
-      → Closes fires f e h
+  byFiring : (powers : List ℤ) → e ≡ sampled powers → closingFiring fires f powers h ≡ true → Closes fires f e h
 
 -- '.. there is an accepted remote reconnect, and after that an accepted manual reconnect, or an under firing in mode 5 or 6': among the calls of `later`,
 -- made after those of `before`
@@ -79,7 +78,8 @@ HoldsOnePhase modes rows f calls switch =
 abbrev pub Broken : List ℕ → Fresh → List Call → Type 0
 Broken modes f calls = ¬ HoldsOnePhase modes builtIn f calls (account builtIn f calls .switch)
 
--- the theorem, and that none of its three modes can be left out
+-- the theorem, that none of its three modes can be left out, and that its conclusion says no less than the sentence: four lists of which that is false,
+-- mode 0 being what turned supply on
 pub record RemoteDisconnectHolds : Type 0 where
   -- 'For every list from a fresh meter, where neither the fresh mode nor any accepted later is 0, 2 or 4 ..', with any number of monitored values
   pub anyHolds :
@@ -95,3 +95,13 @@ pub record RemoteDisconnectHolds : Type 0 where
   pub twoNeeded : Broken (0 ∷ 4 ∷ []) (fresh 2 0 1 1 0) (RemoteDisconnect ∷ RemoteReconnect ∷ [])
   -- and in mode 4, here one accepted later
   pub fourNeeded : Broken (0 ∷ 2 ∷ []) (fresh 1 0 1 1 0) (SetMode 4 ∷ RemoteDisconnect ∷ RemoteReconnect ∷ [])
+  -- '.. after the last one ..': what came between an earlier disconnect and the last one does not count
+  pub lastNeeded :
+      Broken (2 ∷ 4 ∷ []) (fresh 1 0 1 1 0) (RemoteDisconnect ∷ RemoteReconnect ∷ ManualReconnect ∷ RemoteDisconnect ∷ SetMode 0 ∷ [])
+  -- '.. and after that ..': a manual reconnect before the remote one does not count
+  pub orderNeeded : Broken (2 ∷ 4 ∷ []) (fresh 1 0 1 1 0) (RemoteDisconnect ∷ ManualReconnect ∷ RemoteReconnect ∷ SetMode 0 ∷ [])
+  -- '.. an under firing ..': in mode 5 a sample that fires nothing does not count
+  pub firingNeeded : Broken (2 ∷ 4 ∷ []) (fresh 5 3 1 1 0) (RemoteDisconnect ∷ RemoteReconnect ∷ Sample (pos 0) ∷ SetMode 0 ∷ [])
+  -- '.. in mode 5 or 6': an under firing in mode 1 does not count
+  pub modeNeeded :
+      Broken (2 ∷ 4 ∷ []) (fresh 1 3 1 1 0) (Sample (pos 9) ∷ RemoteDisconnect ∷ RemoteReconnect ∷ Sample (pos 3) ∷ SetMode 0 ∷ [])

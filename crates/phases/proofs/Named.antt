@@ -6,6 +6,7 @@ use Rattle.phases.specs.declared.ThreePhaseCall.the-variants.{Sample, Re
 use Rattle.phases.specs.declared.ThreePhaseCall.the-variants.{SetLimiter, SetClock, Event, SetAlarmFilter, SetErrorFilter, ClearAlarms, ClearErrors}
 use Rattle.phases.specs.declared.ThreePhaseCall.the-variants.{ClearLog, Script}
 use Rattle.phases.specs.declared.ThreePhaseParsed.the-variants.{Ok, NoKind}
+use Rattle.base.specs.Tests.{numbersFrom}
 use Rattle.calls.specs.Laws.{bitsOf}
 use Rattle.calls.proofs.Named.{signed-back}
 use Rattle.phases.specs.Calls.{threePhaseKindOf, threePhaseCallOf, ThreePhaseInRange}
@@ -69,4 +70,5 @@ call-named (ClearLog n) h = refl
 call-named (Script n) h = refl
 
 pub laws : Laws
-laws = record { kind-named = kind-named; call-named = call-named; no-kind = no-kind; some-kind = some-kind }
+unfolding threePhaseCallOf numbersFrom
+laws = record { kind-named = kind-named; call-named = call-named; no-kind = no-kind; some-kind = some-kind; unused-ignored = refl }

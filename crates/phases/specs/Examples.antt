@@ -7,10 +7,10 @@ use lib.IntN.{ℤ, pos, negsuc}
 use lib.ListN.{getD}
 use Rattle.base.specs.Tests.{every, any, numbersFrom, gathered, among}
 use Rattle.base.specs.Bits.{bit, number, howMany}
-use Rattle.events.specs.Line.{newest}
+use Rattle.events.specs.Line.{line, newest}
 use Rattle.events.specs.Table.{builtIn, lookup}
 use Rattle.calls.specs.declared.Letter.{Letter}
-use Rattle.calls.specs.declared.Letter.the-variants.{E, G, H, None}
+use Rattle.calls.specs.declared.Letter.the-variants.{B, C, D, E, F, G, H, None}
 use Rattle.history.specs.Effects.{reading}
 use Rattle.history.specs.Last.{last, samplesSince}
 use Rattle.history.specs.Profile.{clocksSince, fromReached}
@@ -21,7 +21,9 @@ use Rattle.history.specs.Logs.{owed}
 use Rattle.history.specs.Account.{acceptedCalls, openings, MonitoredValue}
 use Rattle.history.specs.Examples.{refusal}
 use Rattle.phases.specs.declared.ThreePhaseCall.{ThreePhaseCall}
-use Rattle.phases.specs.declared.ThreePhaseCall.the-variants.{Sample, RemoteReconnect, ManualReconnect, SetLimiter}
+use Rattle.phases.specs.declared.ThreePhaseCall.the-variants.{Sample, RemoteDisconnect, RemoteReconnect, ManualDisconnect, ManualReconnect, SetMode}
+use Rattle.phases.specs.declared.ThreePhaseCall.the-variants.{SetLimiter, SetClock, Event, SetAlarmFilter, SetErrorFilter, ClearAlarms, ClearErrors}
+use Rattle.phases.specs.declared.ThreePhaseCall.the-variants.{ClearLog, Script}
 use Rattle.phases.specs.ThreePhase.{ThreePhaseFresh, ThreePhaseAccount, asAnyCall, threePhaseAccount, threePhaseLetter}
 
 -- settings of a mode, four thresholds, Over and Under, at clock 1000
@@ -64,6 +66,14 @@ exceededEach = each (λ m. m .exceeded)
 abbrev pub runEach : ThreePhaseAccount → List ℕ
 runEach = each (λ m. m .run)
 
+-- Over and Under
+abbrev pub durations : ThreePhaseAccount → List ℕ
+durations a = a .over ∷ a .under ∷ []
+
+-- alarms, their filter and their number, errors and their filter
+abbrev pub registersOf : ThreePhaseAccount → List ℕ
+registersOf a = a .alarms ∷ a .alarmFilter ∷ a .alarmCount ∷ a .errors ∷ a .errorFilter ∷ []
+
 -- L1, L2 and the sum fire over in one sample
 abbrev pub threeOver : List ThreePhaseCall
 threeOver = powers 200 101 0 ∷ []
@@ -72,6 +82,10 @@ threeOver = powers 200 101 0 ∷ []
 abbrev pub oneRemains : List ThreePhaseCall
 oneRemains = threeOver ++ (powers 200 0 0 ∷ [])
 
+-- L1 and the sum fire over, and then L1 fires under, the sum being over still
+abbrev pub sumRemains : List ThreePhaseCall
+sumRemains = powers 101 90 90 ∷ powers 90 90 90 ∷ []
+
 -- L1 fires over and the key reconnects; it fires over again, and then L2 fires over in the sample in which L1 fires under
 abbrev pub overAndUnder : List ThreePhaseCall
 overAndUnder = powers 101 0 0 ∷ ManualReconnect ∷ powers 101 0 0 ∷ powers 0 101 0 ∷ []
@@ -79,6 +93,20 @@ overAndUnder = powers 101 0 0 ∷ ManualReconnect ∷ powers 101 0 0 ∷ powers 
 -- L1 fires over, the centre reconnects, and then L2 fires over in the sample in which L1 fires under
 abbrev pub closedMeanwhile : List ThreePhaseCall
 closedMeanwhile = powers 101 0 0 ∷ RemoteReconnect ∷ powers 0 101 0 ∷ []
+
+-- the letters of calls behind those before them
+abbrev pub lettersFrom : ThreePhaseFresh → List ThreePhaseCall → List ThreePhaseCall → List Letter
+lettersFrom f before [] = []
+lettersFrom f before (c ∷ cs) = letterFrom f before c ∷ lettersFrom f (before ++ (c ∷ [])) cs
+
+-- the switch obeys centre and key, by their own calls and by script, until mode 0
+abbrev pub requested : List ThreePhaseCall
+requested =
+    RemoteDisconnect ∷ ManualReconnect ∷ RemoteReconnect ∷ ManualReconnect ∷ ManualDisconnect ∷ Script 1 ∷ Script 2 ∷ SetMode 0 ∷ []
+
+-- two events, a filter and a clear of each register
+abbrev pub registered : List ThreePhaseCall
+registered = Event 6 ∷ Event 7 ∷ SetAlarmFilter 4 ∷ SetErrorFilter 8 ∷ ClearAlarms 1 ∷ ClearErrors 2 ∷ []
 
 -- the refusal of a limiter setting, or 0
 abbrev pub settingRefusal : ℤ → ℤ → ℤ → ℤ → ℕ → ℕ
@@ -103,6 +131,13 @@ pub record Examples : Type 0 where
   -- the same where the switch is closed again meanwhile, L1 being exceeded still (mode 4): g moves it, and h does not
   pub over-and-under-opens : codes (accountFrom (settingsWith 4 100 100 100 250 1 1) closedMeanwhile) ≡ 65 ∷ 64 ∷ 63 ∷ 66 ∷ 65 ∷ 64 ∷ []
   pub over-and-under-letter : letterFrom (settingsWith 4 100 100 100 250 1 1) (powers 101 0 0 ∷ RemoteReconnect ∷ []) (powers 0 101 0) ≡ G
+  -- the sum is a line as the phases are: it alone fires over ..
+  pub sum-alone-over : codes (accountFrom workshop (powers 90 90 90 ∷ [])) ≡ 65 ∷ 64 ∷ []
+  pub sum-alone-opens : accountFrom workshop (powers 90 90 90 ∷ []) .switch ≡ 2
+  pub sum-alone-letter : letterFrom workshop [] (powers 90 90 90) ≡ G
+  -- .. and it alone remains exceeded, L1 firing under
+  pub sum-alone-remains : codes (accountFrom workshop sumRemains) ≡ 65 ∷ 65 ∷ 64 ∷ 66 ∷ []
+  pub sum-alone-remains-open : accountFrom workshop sumRemains .switch ≡ 2
   -- '.. their exact sum ..': 4,294,967,292 is over 2,147,483,647; in 32 bits it would be −4
   pub sum-above : exceededEach (accountFrom (settingsWith 5 2147483647 2147483647 2147483647 2147483647 1 1) (powers 2147483646 0 2147483646 ∷ []))
       ≡ false ∷ false ∷ false ∷ true ∷ []
@@ -138,3 +173,26 @@ pub record Examples : Type 0 where
   -- in mode 4, without h, a firing under of the last line that was exceeded moves nothing; in mode 0 nothing is tried at all
   pub without-reconnect : codes (accountFrom (settingsWith 4 100 100 100 250 1 1) (powers 101 0 0 ∷ powers 0 0 0 ∷ [])) ≡ 65 ∷ 64 ∷ 66 ∷ []
   pub without-disconnect : codes (accountFrom (settingsWith 0 100 100 100 250 1 1) (powers 101 0 0 ∷ powers 0 0 0 ∷ [])) ≡ 65 ∷ 66 ∷ []
+  -- '.. four lines in that order ..', 'Each firing logs 65 or 66 in line order': L1 and L3 fire under, L2 and the sum over; then L1 and L2, L3 and the sum
+  pub line-order :
+      map (λ calls. codes (accountFrom workshop calls))
+      ((powers 101 0 101 ∷ powers 0 300 0 ∷ []) ∷ (powers 101 101 0 ∷ powers 0 0 300 ∷ []) ∷ [])
+      ≡ (65 ∷ 65 ∷ 64 ∷ 66 ∷ 65 ∷ 66 ∷ 65 ∷ []) ∷ (65 ∷ 65 ∷ 64 ∷ 66 ∷ 66 ∷ 65 ∷ 65 ∷ []) ∷ []
+  -- 'Set limiter (threshold, Over, Under)', here with four thresholds: Over before Under
+  pub set-durations : durations (accountFrom workshop (SetLimiter (pos 1) (pos 2) (pos 3) (pos 4) 5 6 ∷ [])) ≡ 5 ∷ 6 ∷ []
+  -- document 01's other calls are this meter's too: '10, 11. Set alarm, error filter', '12, 13. Clear alarms, errors (mask): ones clear ..', and document 02,
+  -- A6: 'How many alarms stand'
+  pub registers : registersOf (accountFrom workshop registered) ≡ 2 ∷ 4 ∷ 1 ∷ 1 ∷ 8 ∷ []
+  -- '2. Remote disconnect. 3. Remote reconnect. 4. Manual disconnect. 5. Manual reconnect', 'Script: 1 is call 2, 2 is call 3', and 'Accepting mode 0 sets
+  -- switch 1 and, if it was not 1, logs 63'
+  pub switches : codes (accountFrom workshop requested) ≡ 62 ∷ 59 ∷ 61 ∷ 60 ∷ 62 ∷ 59 ∷ 63 ∷ []
+  pub switches-end : accountFrom workshop requested .switch ∷ accountFrom workshop requested .openings ∷ [] ≡ 1 ∷ 2 ∷ []
+  pub switches-letters : lettersFrom workshop [] requested ≡ B ∷ None ∷ D ∷ E ∷ F ∷ C ∷ D ∷ None ∷ []
+  -- 'Set clock: standard line 4 with the old clock, line 5 with the new', 'Event (code): one line in its log', '.. standard line 11 or 10, mask 0 included',
+  -- and 'Clear log (number): it then holds one line 255'
+  pub lines :
+      accountFrom workshop (SetClock 50 ∷ Event 40 ∷ ClearAlarms 0 ∷ ClearErrors 0 ∷ ManualDisconnect ∷ ClearLog 2 ∷ []) .logs
+      ≡ (line 1000 4 ∷ line 50 5 ∷ line 50 11 ∷ line 50 10 ∷ [])
+      ∷ (line 50 255 ∷ [])
+      ∷ (line 50 60 ∷ [])
+      ∷ []

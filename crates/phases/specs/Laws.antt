@@ -2,7 +2,9 @@
 use mathlib.Core.Path.{_≡_}
 use Prim.Native.Nat.{ℕ}
 use mathlib.Core.Bool.{true, false}
-use Rattle.base.specs.Tests.{within}
+use mathlib.Core.List.{[], _∷_, map}
+use lib.IntN.{pos}
+use Rattle.base.specs.Tests.{numbersFrom, within}
 use Rattle.calls.specs.Laws.{bitsOf}
 use Rattle.phases.specs.declared.ThreePhaseCall.{ThreePhaseCall}
 use Rattle.phases.specs.declared.ThreePhaseCall.the-variants.{Sample, RemoteDisconnect, RemoteReconnect, ManualDisconnect, ManualReconnect, SetMode}
@@ -43,3 +45,24 @@ pub record Laws : Type 0 where
   -- '13 | not 1–15', and document 02, A13, of A3's kinds: '.. its kinds get 13 ..'
   pub no-kind : (r : ThreePhaseCommand) → within 1 15 (r .kind) ≡ false → threePhaseCallOf r ≡ NoKind
   pub some-kind : (r : ThreePhaseCommand) → within 1 15 (r .kind) ≡ true → threePhaseCallOf r ≡ NoKind → ⊥
+  -- 'unused ones ignored': of each kind with the numbers 1 to 8, the first ones in their order, 'three powers a second', '.. four thresholds ..' and Over and
+  -- Under behind them
+  pub unused-ignored :
+      map (λ k. threePhaseCallOf (threePhaseCommandOf k 1 2 3 4 5 6 7 8)) (numbersFrom 1 15)
+      ≡ map Ok
+      (Sample (pos 1) (pos 2) (pos 3)
+      ∷ RemoteDisconnect
+      ∷ RemoteReconnect
+      ∷ ManualDisconnect
+      ∷ ManualReconnect
+      ∷ SetMode 1
+      ∷ SetLimiter (pos 1) (pos 2) (pos 3) (pos 4) 5 6
+      ∷ SetClock 1
+      ∷ Event 1
+      ∷ SetAlarmFilter 1
+      ∷ SetErrorFilter 1
+      ∷ ClearAlarms 1
+      ∷ ClearErrors 1
+      ∷ ClearLog 1
+      ∷ Script 1
+      ∷ [])
