@@ -8,11 +8,17 @@ use lib.Signed.{leZ}
 use Prim.Native.Nat.{ℕ}
 use Rattle.base.proofs.Bools.{and-left}
 use Rattle.calls.specs.declared.Answer.the-variants.{Accepted, Refused}
+use Rattle.logs.specs.Layout.{padded, flat, laid}
 use Rattle.history.specs.OnePhase.{Fresh}
 use Rattle.status.proofs.Records.{settings-passed}
 use Rattle.meter.specs.State.{recordOf}
-use Rattle.meter.specs.Fresh.{freshState, leastSettings, freshOf, FreshLaws}
+use Rattle.meter.specs.Fresh.{freshState, leastSettings, leastMeter, freshOf, FreshLaws}
 use Rattle.meter.specs.Settings.{freshAnswer, Settings, SettingsInRange}
+
+-- the meter of the least settings, field by field
+pub least-meter : recordOf (freshState leastSettings) ≡ leastMeter
+unfolding laid flat padded
+least-meter = refl
 
 module _ (f : Fresh) where
   settings-accepted : Settings f → freshOf f .answer ≡ Accepted
@@ -34,8 +40,8 @@ module _ (f : Fresh) where
   accepted-meter : freshOf f .answer ≡ Accepted → freshOf f .meter ≡ recordOf (freshState f)
   accepted-meter a = rw a
 
-  refused-meter : (n : ℕ) → freshOf f .answer ≡ Refused n → freshOf f .meter ≡ recordOf (freshState leastSettings)
-  refused-meter n a = rw a
+  refused-meter : (n : ℕ) → freshOf f .answer ≡ Refused n → freshOf f .meter ≡ leastMeter
+  refused-meter n a = rw a least-meter
 
 pub fresh-laws : FreshLaws
 fresh-laws =

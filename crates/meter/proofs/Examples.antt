@@ -1,5 +1,6 @@
 -- The examples and the near misses, each by computing it.
-use mathlib.Core.Path.{refl}
+use mathlib.Core.Path.{_≡_, refl}
+use mathlib.Core.List.{[], _∷_, map}
 use Rattle.base.specs.Tests.{among, every, any, below, gathered, eachFrom}
 use Rattle.events.specs.Line.{newest}
 use Rattle.events.specs.Table.{builtIn, lookup}
@@ -17,9 +18,11 @@ use Rattle.machine.specs.Settings.{limitsAnswer}
 use Rattle.machine.specs.Machine.{requestResult, sampleResult, modeResult, limiterResult, eventResult, scriptResult}
 use Rattle.steps.specs.Scalars.{soundScalars}
 use Rattle.meter.specs.Sound.{soundMeter}
-use Rattle.meter.specs.Machine.{applied, recordAfter}
+use Rattle.calls.specs.Calls.{callOf}
+use Rattle.meter.specs.Settings.{freshAnswer}
+use Rattle.meter.specs.Machine.{applied, commanded, recordAfter}
 use Rattle.meter.specs.Examples.{lineNumbersFrom, Examples}
-use Rattle.meter.specs.NearMisses.{NearMisses}
+use Rattle.meter.specs.NearMisses.{disconnected, NearMisses}
 
 pub examples : Examples
 unfolding lineNumbersFrom recordAfter applied soundMeter soundScalars soundControl soundLimiter soundAlarms bit howMany soundEmergency soundLogs
@@ -28,11 +31,21 @@ unfolding lineNumbersFrom recordAfter applied soundMeter soundScalars soundContr
     watched requestResult sampleResult modeResult limitsAnswer limiterResult eventResult scriptResult
 examples = record { lines = refl; log = refl; power = refl; taken = refl; refused = refl; full = refl; dropped = refl }
 
+unreached : map disconnected (0 ∷ 1 ∷ 2 ∷ []) ≡ (0, 0) ∷ (0, 1) ∷ (0, 0) ∷ []
+unfolding applied soundMeter soundScalars soundControl soundLimiter soundAlarms bit howMany soundEmergency soundLogs soundArrays soundLog ownCodes zeroPast
+    padded flat laid listsOf changed newest among any below gathered builtIn lookup besides mayHold switchTable decision requestResult
+unreached = refl
+
 pub near-misses : NearMisses
 unfolding applied soundMeter soundScalars soundControl soundLimiter soundAlarms bit howMany soundEmergency soundLogs soundArrays soundLog ownCodes zeroPast
-    among any below builtIn lookup besides mayHold
+    among any below builtIn lookup besides mayHold commanded callOf freshAnswer limitsAnswer every
 near-misses =
     record {
+      codes-each = refl;
+      unreached = unreached;
+      record-first = refl;
+      kind-first = refl;
+      fresh-order = refl;
       modes = refl;
       switches = refl;
       mode-zero = refl;

@@ -1,6 +1,6 @@
 -- A call on a record: its answer, by the account's rule of refusals; on a refusal the record that came in; and a sound record stays sound.
 use mathlib.Core.Path.{_≡_, _∙_, refl, ap, sym}
-use mathlib.Core.Bool.{true}
+use mathlib.Core.Bool.{false, true}
 use mathlib.Core.List.{List}
 use Prim.Native.Nat.{ℕ}
 use native.Mathlib.Omega.{arith}
@@ -59,6 +59,10 @@ no-letter m (refusing k) n h = refl
 no-letter m (making k) n h = absurd (let z : _≡_ {A = ℕ} 0 1 = cc in omega arith)
 
 module _ (rows : List EventRow) (m : Meter) where
+  pub unsound-refused : (c : Call) → soundMeter rows m ≡ false → applied rows m c .answer ≡ Refused 12
+  unfolding applied
+  unsound-refused c e = rw e
+
   pub refused-same : (c : Call) (n : ℕ) → applied rows m c .answer ≡ Refused n → applied rows m c .meter ≡ m
   unfolding applied
   refused-same c n =

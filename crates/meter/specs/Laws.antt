@@ -1,6 +1,6 @@
 -- What holds of the machine: what a reader wants beside the definitions.
 use mathlib.Core.Path.{_≡_}
-use mathlib.Core.Bool.{true}
+use mathlib.Core.Bool.{true, false}
 use mathlib.Core.List.{List, _∷_}
 use Prim.Native.Nat.{ℕ}
 use lib.ListN.{length}
@@ -43,6 +43,8 @@ pub record LawsOf (rows : List EventRow) : Type 0 where
   -- for a sound record the answer is the one that the account's rule gives: each number comes under its condition only
   pub answers : (m : Meter) (c : Call) → soundMeter rows m ≡ true
       → applied rows m c .answer ≡ answerOf (reading rows (m .control .mode) (groupsIn (m .emergency)) (asCall c))
+  -- 'record | 12 | not sound; every call'
+  pub unsound-refused : (m : Meter) (c : Call) → soundMeter rows m ≡ false → applied rows m c .answer ≡ Refused 12
   -- on any refusal the record is the one that came in, of a call and of a command
   pub refused-same : (m : Meter) (c : Call) (n : ℕ) → applied rows m c .answer ≡ Refused n
       → applied rows m c .meter ≡ m

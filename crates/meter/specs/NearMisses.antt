@@ -8,15 +8,16 @@ use lib.ListN.{set, replicate}
 use Rattle.events.specs.Table.{builtIn}
 use Rattle.emergency.specs.Emergency.{noEmergency, withFields}
 use Rattle.logs.specs.Arrays.{place}
-use Rattle.calls.specs.declared.Call.the-variants.{SetAlarmFilter}
-use Rattle.calls.specs.Calls.{answerNumber}
+use Rattle.calls.specs.declared.Call.the-variants.{SetAlarmFilter, RemoteDisconnect, SetMode, SetLimiter, Event, ClearLog, Script, SetGroups, SetProfile}
+use Rattle.calls.specs.Calls.{answerNumber, commandOf}
 use Rattle.history.specs.Examples.{exampleSettings}
 use Rattle.meter.specs.declared.Meter.{Meter}
 use Rattle.machine.specs.Values.{Values, withControl, withLimiters, withAlarms, withEmergency}
 use Rattle.steps.specs.Scalars.{scalarsFrom}
 use Rattle.meter.specs.State.{withLogs}
 use Rattle.meter.specs.Sound.{soundMeter}
-use Rattle.meter.specs.Machine.{applied}
+use Rattle.meter.specs.Machine.{applied, commanded}
+use Rattle.meter.specs.Settings.{settingsOf, freshAnswer}
 use Rattle.meter.specs.Fresh.{freshState}
 
 -- whether a record is sound, and what a call on it answers: 'record | 12 | not sound; every call'
@@ -89,6 +90,12 @@ ofLines = ofLogs (1 ∷ 1 ∷ 1 ∷ [])
 abbrev pub places : List ℕ
 places = 0 ∷ 1 ∷ 31 ∷ 32 ∷ 33 ∷ 63 ∷ 64 ∷ 65 ∷ 95 ∷ []
 
+-- switch and openings after a remote disconnect, in mode 1 with no opening so far, by the switch before
+abbrev pub disconnected : ℕ → ℕ × ℕ
+disconnected switch =
+    let after : Meter = applied builtIn (ofControl 1 switch) RemoteDisconnect .meter in
+    (after .control .state, after .control .openings)
+
 -- each row the last good value and the first bad one
 pub record NearMisses : Type 0 where
   -- 'Mode 0–6'
@@ -126,3 +133,19 @@ pub record NearMisses : Type 0 where
       ≡ good ∷ bad ∷ bad ∷ good ∷ bad ∷ bad ∷ good ∷ bad ∷ bad ∷ []
   pub codes-past : map (λ i. soundAndAnswer (ofLines oneEach (set oneEach i 255))) places
       ≡ good ∷ bad ∷ bad ∷ good ∷ bad ∷ bad ∷ good ∷ bad ∷ bad ∷ []
+  -- 'each log holds only its own codes': each of its lines, the first, the second and the last of each log
+  pub codes-each : map (λ i. soundAndAnswer (ofLogs (32 ∷ 32 ∷ 32 ∷ []) (replicate 96 1) (set (replicate 96 255) i 70))) places ≡ replicate 9 bad
+  -- 'A move out of 1 adds one to Openings', and no other does; the first and the last are of sound records that no list of calls leaves
+  pub unreached : map disconnected (0 ∷ 1 ∷ 2 ∷ []) ≡ (0, 0) ∷ (0, 1) ∷ (0, 0) ∷ []
+  -- 'record | 12 | not sound; every call': before what else is wrong with the call ..
+  pub record-first :
+      map (λ c. answerNumber (applied builtIn (ofControl 7 1) c .answer))
+      (RemoteDisconnect ∷ SetMode 7 ∷ SetLimiter (negsuc 0) 0 0 ∷ Event 3 ∷ ClearLog 0 ∷ Script 3 ∷ SetGroups 9 0 0 0 0 ∷ SetProfile 1 (negsuc 0) 0 0 ∷ [])
+      ≡ replicate 8 12
+  -- .. and behind 'kind | 13 | ..; the command's reading fails before the record is touched'
+  pub kind-first : map (λ k. answerNumber (commanded builtIn (ofControl 7 1) (commandOf k 0 0 0 0 0) .answer)) (0 ∷ 1 ∷ 17 ∷ 18 ∷ []) ≡ 13 ∷ 12 ∷ 12 ∷ 13 ∷ []
+  -- 'Place, in order', of fresh: 1, 4, 5
+  pub fresh-order :
+      map (λ f. answerNumber (freshAnswer f)) (settingsOf 7 (negsuc 0) 0 0 0 ∷ settingsOf 6 (negsuc 0) 0 0 0 ∷ settingsOf 6 (pos 0) 0 1 0
+      ∷ settingsOf 6 (pos 0) 1 86401 0 ∷ settingsOf 6 (pos 0) 1 86400 0 ∷ [])
+      ≡ 1 ∷ 4 ∷ 5 ∷ 5 ∷ 0 ∷ []

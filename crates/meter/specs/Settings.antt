@@ -1,11 +1,12 @@
 -- The settings that fresh takes: 'Fresh takes mode, threshold, Over, Under, clock', and which it refuses.
 use mathlib.Core.Path.{_≡_}
-use mathlib.Core.Bool.{true, cond}
+use mathlib.Core.Bool.{true, _&&_, cond}
 use mathlib.Core.List.{[], _∷_}
 use Prim.Native.Nat.{ℕ}
 use lib.Dec.{leb}
-use lib.IntN.{ℤ}
-use Rattle.limiter.specs.Limiter.{isThreshold, isDuration}
+use lib.IntN.{ℤ, pos}
+use lib.Signed.{leZ}
+use Rattle.base.specs.Tests.{within}
 use Rattle.calls.specs.declared.Answer.{Answer}
 use Rattle.calls.specs.declared.Answer.the-variants.{Refused}
 use Rattle.calls.specs.Calls.{Word, Signed}
@@ -25,9 +26,9 @@ freshAnswer f = cond (leb (f .mode) 6) (limitsAnswer (f .threshold ∷ []) (f .o
 -- number of 32 bits
 pub record Settings (f : Fresh) : Type 0 where
   pub mode : leb (f .mode) 6 ≡ true
-  pub threshold : isThreshold (f .threshold) ≡ true
-  pub over : isDuration (f .over) ≡ true
-  pub under : isDuration (f .under) ≡ true
+  pub threshold : leZ (pos 0) (f .threshold) && leZ (f .threshold) (pos 2147483647) ≡ true
+  pub over : within 1 86400 (f .over) ≡ true
+  pub under : within 1 86400 (f .under) ≡ true
   pub clock : Word (f .clock)
 
 -- the numbers that fresh judges or takes as they are, as values of their types

@@ -18,6 +18,7 @@ near-misses =
       unchanged = refl;
       by-table = refl;
       lengths = refl;
+      reader-order = refl;
       pairs-bytes = refl;
       modes = refl;
       switches = refl;

@@ -4,7 +4,7 @@ use Rattle.page.proofs.Common.{Refused}
 use Rattle.calls.specs.declared.Answer.{Answer}
 
 -- a refusal is no acceptance
-refused-not : {A : Type 0} (n : ℕ) → Refused n ≡ Accepted → A
+pub refused-not : {A : Type 0} (n : ℕ) → Refused n ≡ Accepted → A
 refused-not n e = let z : _≡_ {A = ℕ} 0 1 = cc in absurd (omega arith)
 
 -- the tests that an accepted writer has passed
@@ -21,6 +21,17 @@ module _ {A : Type 0} (answer : A → Answer) (taken : A) (refused : ℕ → A) 
   all-passed true true false e = refused-not 11 (sym (refuses 11) ∙ e)
   all-passed true false c e = refused-not 10 (sym (refuses 10) ∙ e)
   all-passed false b c e = refused-not 9 (sym (refuses 9) ∙ e)
+
+-- what a refused reader hands back, each refusal handing back the same
+module _ {A M : Type 0} (answer : A → Answer) (meter : A → M) (taken : A) (accepts : answer taken ≡ Accepted) (refused : ℕ → A) (least : M)
+    (same : (n : ℕ) → meter (refused n) ≡ least) where
+  pub refused-back : (a b c : Bool) (n : ℕ) →
+      let o = cond a (cond b (cond c taken (refused 11)) (refused 10)) (refused 9) in
+      answer o ≡ Refused n → meter o ≡ least
+  refused-back true true true n e = refused-not n (sym e ∙ accepts)
+  refused-back true true false n e = same 11
+  refused-back true false c n e = same 10
+  refused-back false b c n e = same 9
 
 -- the buffer behind a writer, of a record that is sound or not, and of its page
 module _ (size : ℕ) (sound : Bool) (page out : List ℕ) where

@@ -63,6 +63,9 @@ pub record NearMisses : Type 0 where
   pub lengths : map readNumber (take 598 workedBytes ∷ (workedBytes ++ (0 ∷ [])) ∷ []) ≡ 9 ∷ 9 ∷ []
   -- 'reader | 10 | a pair differs': any of their bytes one more
   pub pairs-bytes : below start (λ i. eqb (readWith i (getD workedBytes i 0 + 1)) 10) ≡ true
+  -- 'Place, in order': 9, 10, 11, of bytes in which more than one is wrong
+  pub reader-order :
+      map readNumber ([] ∷ set (take 598 workedBytes) 0 1 ∷ set (set workedBytes 0 1) 36 7 ∷ set workedBytes 36 7 ∷ []) ≡ 9 ∷ 9 ∷ 10 ∷ 11 ∷ []
   -- 'reader | 11 | the record would not be sound': the mode ..
   pub modes : map (readWith 36) (6 ∷ 7 ∷ []) ≡ 0 ∷ 11 ∷ []
   -- .. the switch, which mode 0 has at 1 ..

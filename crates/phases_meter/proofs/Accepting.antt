@@ -5,9 +5,10 @@ use Rattle.limiter.specs.Limiter.{isThreshold}
 use Rattle.calls.specs.Calls.{Signed}
 use Rattle.calls.specs.declared.Answer.the-variants.{Accepted, Refused}
 use Rattle.status.proofs.Records.{settings-passed}
+use Rattle.logs.specs.Layout.{padded, flat, laid}
 use Rattle.phases.specs.ThreePhase.{ThreePhaseFresh, inOrder}
 use Rattle.phases_meter.specs.State.{threePhaseRecordOf}
-use Rattle.phases_meter.specs.Fresh.{threePhaseFreshState, threePhaseLeastSettings, threePhaseFreshOf, FreshLaws}
+use Rattle.phases_meter.specs.Fresh.{threePhaseFreshState, threePhaseLeastSettings, threePhaseLeastMeter, threePhaseFreshOf, FreshLaws}
 use Rattle.phases_meter.specs.Settings.{threePhaseFreshAnswer, ThreePhaseSettings, ThreePhaseSettingsInRange}
 
 -- a threshold is not negative; of a number of 32 bits, that is all
@@ -16,6 +17,11 @@ not-negative t h = and-left (leZ (pos 0) t) (leZ t (pos 2147483647)) h
 
 threshold : (t : ℤ) → Signed t → leZ (pos 0) t ≡ true → isThreshold t ≡ true
 threshold t h z = rw z (h .1)
+
+-- the meter of the least settings, field by field
+pub three-phase-least-meter : threePhaseRecordOf (threePhaseFreshState threePhaseLeastSettings) ≡ threePhaseLeastMeter
+unfolding laid flat padded
+three-phase-least-meter = refl
 
 module _ (f : ThreePhaseFresh) where
   settings-accepted : ThreePhaseSettings f → threePhaseFreshOf f .answer ≡ Accepted
@@ -46,9 +52,8 @@ module _ (f : ThreePhaseFresh) where
   accepted-meter : threePhaseFreshOf f .answer ≡ Accepted → threePhaseFreshOf f .meter ≡ threePhaseRecordOf (threePhaseFreshState f)
   accepted-meter a = rw a
 
-  refused-meter : (n : ℕ) → threePhaseFreshOf f .answer ≡ Refused n
-      → threePhaseFreshOf f .meter ≡ threePhaseRecordOf (threePhaseFreshState threePhaseLeastSettings)
-  refused-meter n a = rw a
+  refused-meter : (n : ℕ) → threePhaseFreshOf f .answer ≡ Refused n → threePhaseFreshOf f .meter ≡ threePhaseLeastMeter
+  refused-meter n a = rw a three-phase-least-meter
 
 pub fresh-laws : FreshLaws
 fresh-laws =

@@ -1,6 +1,6 @@
 -- A call on a record of the three-phase meter: its answer, by the account's rule of refusals; on a refusal the record that came in; and a sound record stays
 -- sound.
-use Rattle.base.proofs.Prelude.{_≡_, refl, sym, ap, _∙_, true, List, [], ℕ, arith, every, and-right}
+use Rattle.base.proofs.Prelude.{false, _≡_, refl, sym, ap, _∙_, true, List, [], ℕ, arith, every, and-right}
 use Rattle.events.specs.Table.{EventRow, lawful}
 use Rattle.logs.specs.Layout.{Sized, soundLogs}
 use Rattle.calls.specs.declared.Answer.the-variants.{Refused}
@@ -54,6 +54,10 @@ no-letter m (refusing k) n h = refl
 no-letter m (making k) n h = absurd (let z : _≡_ {A = ℕ} 0 1 = cc in omega arith)
 
 module _ (rows : List EventRow) (m : ThreePhaseMeter) where
+  pub unsound-refused : (c : ThreePhaseCall) → soundThreePhaseMeter rows m ≡ false → threePhaseApplied rows m c .answer ≡ Refused 12
+  unfolding threePhaseApplied
+  unsound-refused c e = rw e
+
   pub refused-same : (c : ThreePhaseCall) (n : ℕ) → threePhaseApplied rows m c .answer ≡ Refused n → threePhaseApplied rows m c .meter ≡ m
   unfolding threePhaseApplied
   refused-same c n =

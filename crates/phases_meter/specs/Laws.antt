@@ -1,6 +1,6 @@
 -- What holds of the machine on the three-phase meter's record: what a reader wants beside the definitions.
 use mathlib.Core.Path.{_≡_}
-use mathlib.Core.Bool.{true}
+use mathlib.Core.Bool.{true, false}
 use mathlib.Core.List.{List, [], _∷_}
 use Prim.Native.Nat.{ℕ}
 use Rattle.base.specs.Tests.{every}
@@ -45,6 +45,8 @@ pub record LawsOf (rows : List EventRow) : Type 0 where
   -- for a sound record the answer is the one that the account's rule gives: each number comes under its condition only
   pub answers : (m : ThreePhaseMeter) (c : ThreePhaseCall) → soundThreePhaseMeter rows m ≡ true
       → threePhaseApplied rows m c .answer ≡ answerOf (reading rows (m .scalars .status .control .mode) [] (asAnyCall c))
+  -- 'record | 12 | not sound; every call'
+  pub unsound-refused : (m : ThreePhaseMeter) (c : ThreePhaseCall) → soundThreePhaseMeter rows m ≡ false → threePhaseApplied rows m c .answer ≡ Refused 12
   -- on any refusal the record is the one that came in, of a call and of a command
   pub refused-same : (m : ThreePhaseMeter) (c : ThreePhaseCall) (n : ℕ) → threePhaseApplied rows m c .answer ≡ Refused n
       → threePhaseApplied rows m c .meter ≡ m

@@ -8,13 +8,14 @@ use lib.IntN.{ℤ, pos, negsuc}
 use lib.ListN.{replicate}
 use Rattle.events.specs.Table.{builtIn}
 use Rattle.calls.specs.Calls.{answerNumber}
-use Rattle.phases.specs.declared.ThreePhaseCall.the-variants.{SetAlarmFilter}
+use Rattle.phases.specs.declared.ThreePhaseCall.the-variants.{SetAlarmFilter, SetMode, SetLimiter, Event, ClearLog, Script}
 use Rattle.phases.specs.Laws.{naming}
 use Rattle.phases_steps.specs.declared.MonitoredValue.{MonitoredValue}
 use Rattle.phases_steps.specs.declared.Limiters.{Limiters}
 use Rattle.phases_meter.specs.declared.ThreePhaseMeter.{ThreePhaseMeter}
 use Rattle.phases_meter.specs.State.{threePhaseWithLogs, soundThreePhaseMeter}
 use Rattle.phases_meter.specs.Machine.{threePhaseApplied, threePhaseCommanded}
+use Rattle.phases_meter.specs.Settings.{threePhaseSettingsOf, threePhaseFreshAnswer}
 
 -- whether a record is sound, and what a call on it answers: 'record | 12 | not sound; every call'
 abbrev pub soundAnswered : ThreePhaseMeter → Bool × ℕ
@@ -92,6 +93,18 @@ pub record NearMisses : Type 0 where
   -- 'kind | 13 | ..; the command's reading fails before the record is touched', and of A3's kinds (document 02, A13) '.. its kinds get 13 ..': before 12, the
   -- sum's threshold being negative
   pub kind-first : map commandedUnsound (0 ∷ 1 ∷ 15 ∷ 16 ∷ 17 ∷ 256 ∷ []) ≡ 13 ∷ 12 ∷ 12 ∷ 13 ∷ 13 ∷ 13 ∷ []
+  -- 'record | 12 | not sound; every call': before what else is wrong with the call
+  pub record-first :
+      map (λ c. answerNumber (threePhaseApplied builtIn (let n = usualValue in ofLimiters (limitersWith 5 9 n n n (valueWith (negsuc 0) false 0))) c .answer))
+      (SetMode 7 ∷ SetLimiter (negsuc 0) (pos 0) (pos 0) (pos 0) 0 0 ∷ Event 3 ∷ ClearLog 0 ∷ Script 3 ∷ []) ≡ replicate 5 12
+  -- 'Place, in order', of fresh: 1, 4, 5; 'Fresh and call 7 take four thresholds, 4 if one is negative'
+  pub fresh-order :
+      map (λ f. answerNumber (threePhaseFreshAnswer f))
+      (threePhaseSettingsOf 7 (pos 0) (pos 0) (pos 0) (negsuc 0) 0 0 0 ∷ threePhaseSettingsOf 6 (pos 0) (pos 0) (pos 0) (negsuc 0) 0 0 0
+      ∷ threePhaseSettingsOf 6 (negsuc 0) (pos 0) (pos 0) (pos 0) 1 1 0 ∷ threePhaseSettingsOf 6 (pos 0) (negsuc 0) (pos 0) (pos 0) 1 1 0
+      ∷ threePhaseSettingsOf 6 (pos 0) (pos 0) (negsuc 0) (pos 0) 1 1 0 ∷ threePhaseSettingsOf 6 (pos 0) (pos 0) (pos 0) (pos 0) 0 1 0
+      ∷ threePhaseSettingsOf 6 (pos 0) (pos 0) (pos 0) (pos 0) 1 86401 0 ∷ threePhaseSettingsOf 6 (pos 0) (pos 0) (pos 0) (pos 0) 1 86400 0 ∷ [])
+      ≡ 1 ∷ 4 ∷ 4 ∷ 4 ∷ 4 ∷ 5 ∷ 5 ∷ 0 ∷ []
   -- 'Two durations, Over and Under, 1 to 86,400 samples'
   pub overs : map (λ o. withDurations o 9) (0 ∷ 1 ∷ 86400 ∷ 86401 ∷ []) ≡ unsoundRefused ∷ soundAccepted ∷ soundAccepted ∷ unsoundRefused ∷ []
   pub unders : map (λ u. withDurations 5 u) (0 ∷ 1 ∷ 86400 ∷ 86401 ∷ []) ≡ unsoundRefused ∷ soundAccepted ∷ soundAccepted ∷ unsoundRefused ∷ []

@@ -1,10 +1,11 @@
 -- The settings that fresh takes: 'Fresh and call 7 take four thresholds, 4 if one is negative' (document 02, A13), and which it refuses.
 use mathlib.Core.Path.{_≡_}
-use mathlib.Core.Bool.{true, cond}
+use mathlib.Core.Bool.{true, _&&_, cond}
 use Prim.Native.Nat.{ℕ}
 use lib.Dec.{leb}
-use lib.IntN.{ℤ}
-use Rattle.limiter.specs.Limiter.{isThreshold, isDuration}
+use lib.IntN.{ℤ, pos}
+use lib.Signed.{leZ}
+use Rattle.base.specs.Tests.{within}
 use Rattle.calls.specs.declared.Answer.{Answer}
 use Rattle.calls.specs.declared.Answer.the-variants.{Refused}
 use Rattle.calls.specs.Calls.{Word, Signed}
@@ -24,12 +25,12 @@ threePhaseFreshAnswer f =
 -- settings that fresh accepts; the clock is a number of 32 bits
 pub record ThreePhaseSettings (f : ThreePhaseFresh) : Type 0 where
   pub mode : leb (f .mode) 6 ≡ true
-  pub l1 : isThreshold (f .l1) ≡ true
-  pub l2 : isThreshold (f .l2) ≡ true
-  pub l3 : isThreshold (f .l3) ≡ true
-  pub sum : isThreshold (f .sum) ≡ true
-  pub over : isDuration (f .over) ≡ true
-  pub under : isDuration (f .under) ≡ true
+  pub l1 : leZ (pos 0) (f .l1) && leZ (f .l1) (pos 2147483647) ≡ true
+  pub l2 : leZ (pos 0) (f .l2) && leZ (f .l2) (pos 2147483647) ≡ true
+  pub l3 : leZ (pos 0) (f .l3) && leZ (f .l3) (pos 2147483647) ≡ true
+  pub sum : leZ (pos 0) (f .sum) && leZ (f .sum) (pos 2147483647) ≡ true
+  pub over : within 1 86400 (f .over) ≡ true
+  pub under : within 1 86400 (f .under) ≡ true
   pub clock : Word (f .clock)
 
 -- the numbers that fresh judges or takes as they are, as values of their types

@@ -105,8 +105,7 @@ impl ThreePhaseMeter {
     pub fn command(self, table: &[u16; 256], command: ThreePhaseCommand) -> ThreePhaseOutcome
         ensures { λ r. ⌜ r ≡ threePhaseCommanded (tableIn (now (table .entry))) self command ⌝ }
     {
-        let parsed = phases::read_command(command);
-        let ThreePhaseParsed::Ok(call) = parsed else {
+        let ThreePhaseParsed::Ok(call) = phases::read_command(command) else {
             return ThreePhaseOutcome {
                 meter: self,
                 answer: Answer::Refused(13),

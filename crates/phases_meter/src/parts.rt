@@ -64,8 +64,7 @@ pub fn command_sound(
 ) -> ThreePhaseAnswered
     ensures { λ r. ⌜ threePhaseHandedBack r counts clocks codes ≡ threePhaseCommandInParts (tableIn (now (table .entry))) (threePhaseGiven scalars counts clocks codes) command ⌝ }
 {
-    let parsed = phases::read_command(command);
-    let ThreePhaseParsed::Ok(call) = parsed else {
+    let ThreePhaseParsed::Ok(call) = phases::read_command(command) else {
         return ThreePhaseAnswered {
             scalars,
             answer: Answer::Refused(13),

@@ -5,11 +5,12 @@ use Rattle.page.proofs.Common.{length-be, EventRow, Accepted, Refused}
 use Rattle.codec.proofs.Formats.{num-lawful, flag-lawful, natural-lawful, pair-lawful, via-lawful}
 use Rattle.page.proofs.Lines.{length-lines, length-encs-lines}
 use Rattle.page.proofs.Areas.{control-lawful, register-lawful, alarms-lawful, logs-lawful, small, pairs-first, first-pairs}
-use Rattle.page.proofs.Tests.{both-passed, all-passed, accepted-left, refused-left, left-behind}
+use Rattle.page.proofs.Tests.{both-passed, all-passed, refused-back, accepted-left, refused-left, left-behind}
 use Rattle.phases_meter.specs.declared.ThreePhaseMeter.{ThreePhaseMeter}
 use Rattle.phases_meter.specs.declared.ThreePhaseOutcome.{ThreePhaseOutcome}
 use Rattle.phases_meter.specs.State.{soundThreePhaseMeter}
-use Rattle.phases_meter.specs.Fresh.{threePhaseRefusedOutcome}
+use Rattle.phases_meter.specs.Fresh.{threePhaseRefusedOutcome, threePhaseLeastMeter}
+use Rattle.phases_meter.proofs.Accepting.{three-phase-least-meter}
 use Rattle.phases_page.specs.Layout.{valueFields, ofValueFields, monitoredArea, limitersFields, ofLimitersFields, limitersArea, threePhaseAreas}
 use Rattle.phases_page.specs.Layout.{threePhaseMeterAreas, ofThreePhaseMeterAreas, threePhaseLayout, threePhasePairs, threePhaseDirectory}
 use Rattle.phases_page.specs.Layout.{threePhaseStart, threePhaseSize, threePhasePageOf, threePhaseWriteAnswer, threePhaseWritten}
@@ -151,6 +152,13 @@ module _ (rows : List EventRow) where
   accepted-sound : (s : List ℕ) → threePhaseReadOf rows s .answer ≡ Accepted → soundThreePhaseMeter rows (threePhaseReadOf rows s .meter) ≡ true
   accepted-sound s e = let r = accepted-read s e in rw (r .meter) (r .sound)
 
+  refused-read : (s : List ℕ) (n : ℕ) → threePhaseReadOf rows s .answer ≡ Refused n → threePhaseReadOf rows s .meter ≡ threePhaseLeastMeter
+  unfolding threePhaseReadOf
+  refused-read s =
+      refused-back (λ (o : ThreePhaseOutcome). o .answer) (λ (o : ThreePhaseOutcome). o .meter) (threePhaseAcceptedOutcome (threePhaseMeterIn s)) refl
+      threePhaseRefusedOutcome threePhaseLeastMeter (λ n. three-phase-least-meter)
+      (eqb (length s) threePhaseSize) (threePhaseHasPairs s) (threePhaseHoldsSound rows s)
+
   -- ---- of the writer
 
   writer-sound : (m : ThreePhaseMeter) (out : List ℕ) → threePhaseWriteAnswer rows m out ≡ Accepted → soundThreePhaseMeter rows m ≡ true
@@ -179,6 +187,7 @@ module _ (rows : List EventRow) where
         read-written = read-written;
         write-accepted = write-accepted;
         written-read = written-read;
+        refused-read = refused-read;
         accepted-sound = accepted-sound;
       }
 

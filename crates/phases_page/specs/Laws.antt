@@ -12,6 +12,7 @@ use Rattle.calls.specs.Calls.{Word}
 use Rattle.phases_meter.specs.declared.ThreePhaseMeter.{ThreePhaseMeter}
 use Rattle.phases_meter.specs.declared.ThreePhaseOutcome.{ThreePhaseOutcome}
 use Rattle.phases_meter.specs.State.{soundThreePhaseMeter}
+use Rattle.phases_meter.specs.Fresh.{threePhaseLeastMeter}
 use Rattle.phases_page.specs.Layout.{threePhasePairs, threePhaseSize, threePhasePageOf, threePhaseWriteAnswer, threePhaseWritten}
 use Rattle.phases_page.specs.Layout.{threePhaseAcceptedOutcome, threePhaseReadOf}
 
@@ -44,6 +45,8 @@ pub record LawsOf (rows : List EventRow) : Type 0 where
       → threePhaseWriteAnswer rows (threePhaseReadOf rows s .meter) out ≡ Accepted
   pub written-read : (s out : List ℕ) → Bytes s → threePhaseSize ≤ length out → threePhaseReadOf rows s .answer ≡ Accepted
       → take threePhaseSize (threePhaseWritten rows (threePhaseReadOf rows s .meter) out) ≡ s
+  -- 'A refused .. reader returns the meter of mode 0, threshold 0, durations 1, clock 0', whatever the bytes
+  pub refused-read : (s : List ℕ) (n : ℕ) → threePhaseReadOf rows s .answer ≡ Refused n → threePhaseReadOf rows s .meter ≡ threePhaseLeastMeter
   -- an accepted record is sound
   pub accepted-sound : (s : List ℕ) → threePhaseReadOf rows s .answer ≡ Accepted
       → soundThreePhaseMeter rows (threePhaseReadOf rows s .meter) ≡ true

@@ -9,5 +9,5 @@ command-spec {M} =
     let answers = tie.spec {M = M} (λ c κs. search needs) (λ c. search needs) (λ c. search needs)
     (λ c. rw (← c .before .before .read-command .ensures .0, c .enum-told .given .1))
     (λ c κs. search needs)
-    (λ c. rw (← c .before .before .before .before .read-command .ensures .0, c .before .before .parsed .given .1) (c .apply .ensures .0))
+    (λ c. rw (← c .before .before .before .before .read-command .ensures .0, c .before .before .call .given .1) (c .apply .ensures .0))
     in tie.close answers

@@ -11,4 +11,4 @@ command-sound-spec =
     (λ c κs. search needs)
     (λ c.
     let told = c .before .before .before .before .before in
-    rw (← told .before .before .read-command .ensures .0, told .parsed .given .1) (c .apply-sound .ensures)))
+    rw (← told .before .before .read-command .ensures .0, told .call .given .1) (c .apply-sound .ensures)))
