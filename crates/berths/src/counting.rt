@@ -3,12 +3,19 @@
 ghost use mathlib.Core.Path.{_≡_};
 ghost use Prim.Native.Nat.{_-_};
 ghost use Rattle.berths.specs.Allotments.{isFaulty};
-ghost use Rattle.berths.specs.Counting.{atLimit, withBerth, refusalIn, judgedOf, answered};
-use crate::Berth;
+ghost use Rattle.berths.specs.Counting.{readable, atLimit, withBerth, refusalIn, judgedOf, answered};
 use crate::Column;
 use crate::Judged;
 use crate::shares;
 use calls::Answer;
+
+// How many of n berths are read: all, or none of more than sixteen, which are refused as no berth is,
+// whatever they hold.
+pub(crate) fn readable(n: usize) -> usize
+    ensures { λ r. ⌜ r ≡ readable n ⌝ }
+{
+    if n <= 16 { n } else { 0 }
+}
 
 // A column with no berth yet.
 pub(crate) fn at_limit(limit: i32) -> Column
@@ -30,15 +37,15 @@ fn is_faulty(guarantee: i32, cap: i32) -> bool
 }
 
 // The column with one berth more.
-pub(crate) fn with_berth(column: Column, berth: Berth) -> Column
-    ensures { λ r. ⌜ r ≡ withBerth column berth ⌝ }
+pub(crate) fn with_berth(column: Column, guarantee: i32, cap: i32, demand: i32) -> Column
+    ensures { λ r. ⌜ r ≡ withBerth column guarantee cap demand ⌝ }
 {
-    let guarantee = base::positive_part(berth.guarantee);
+    let guaranteed = base::positive_part(guarantee);
     Column {
-        faulty: column.faulty | is_faulty(berth.guarantee, berth.cap),
-        short: column.short | (column.room < guarantee),
-        room: shares::minus(column.room, guarantee),
-        left: shares::minus(column.left, shares::first_part(berth)),
+        faulty: column.faulty | is_faulty(guarantee, cap),
+        short: column.short | (column.room < guaranteed),
+        room: shares::minus(column.room, guaranteed),
+        left: shares::minus(column.left, shares::first_part(guarantee, demand)),
     }
 }
 

@@ -44,33 +44,34 @@ pub(crate) struct Judged {
     pub left: u32,
 }
 
-// A berth with its allotment, and what is left for those behind it.
+// What a berth gets, and what is left for those behind it.
 pub(crate) struct Share {
-    pub berth: Berth,
+    pub allotment: i32,
     pub left: u32,
 }
 
 // Fills the allotments of a column's berths: 22 for no berth or more than sixteen, 23 if the limit, a
 // guarantee or a cap is negative or a guarantee is above its cap, 24 if the guarantees sum above the
-// limit. All berths are read, however many; a refusal leaves every one as it is.
+// limit. More than sixteen are not read at all; a refusal leaves every one as it is.
 pub fn allot(limit: i32, berths: &mut [Berth]) -> Answer
     ensures { λ r. ⌜ (r ≡ answered (refusal limit (now (berths .entry)))) × (now (berths .exit) ≡ filled limit (now (berths .entry))) ⌝ }
     ensures laws { λ _. ⌜ Laws ⌝ }
     ensures near_misses { λ _. ⌜ NearMisses ⌝ }
 {
-    let n = berths.len();
+    let mut n = berths.len();
+    n = counting::readable(n);
     let mut column = counting::at_limit(limit);
     let mut i = 0;
     while i < n {
-        column = counting::with_berth(column, berths[i]);
+        column = counting::with_berth(column, berths[i].guarantee, berths[i].cap, berths[i].demand);
         i += 1;
     }
     let judged = counting::judge(column, n);
     let mut left = judged.left;
     let mut j = 0;
     while j < judged.places {
-        let share = shares::share_of(left, berths[j]);
-        berths[j] = share.berth;
+        let share = shares::share_of(left, berths[j].guarantee, berths[j].cap, berths[j].demand);
+        berths[j].allotment = share.allotment;
         left = share.left;
         j += 1;
     }

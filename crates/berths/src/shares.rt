@@ -1,9 +1,9 @@
 // What one berth gets: its first part, and its share of what all first parts leave of the limit.
 ghost use mathlib.Core.Path.{_≡_};
 ghost use Prim.Native.Nat.{_+_, _-_, _<_, min};
-ghost use Rattle.berths.specs.Allotments.{firstPart, wanted, withAllotment};
+ghost use lib.IntN.{pos};
+ghost use Rattle.base.specs.Numbers.{positivePart};
 ghost use Rattle.berths.specs.Counting.{shareOf};
-use crate::Berth;
 use crate::Share;
 
 fn lesser(m: u32, n: u32) -> u32
@@ -20,21 +20,17 @@ pub(crate) fn minus(m: u32, n: u32) -> u32
 }
 
 // The smaller of demand and guarantee.
-pub(crate) fn first_part(berth: Berth) -> u32
-    ensures { λ r. ⌜ (r ≡ firstPart berth) × (r < 2147483648) ⌝ }
+pub(crate) fn first_part(guarantee: i32, demand: i32) -> u32
+    ensures { λ r. ⌜ (r ≡ min (positivePart demand) (positivePart guarantee)) × (r < 2147483648) ⌝ }
 {
-    let guarantee = base::positive_part(berth.guarantee);
-    lesser(base::positive_part(berth.demand), guarantee)
+    lesser(base::positive_part(demand), base::positive_part(guarantee))
 }
 
 // The most that a berth can get: the smaller of demand and cap.
-fn wanted(berth: Berth) -> u32
-    ensures { λ r. ⌜ (r ≡ wanted berth) × (r < 2147483648) ⌝ }
+fn wanted(cap: i32, demand: i32) -> u32
+    ensures { λ r. ⌜ (r ≡ min (positivePart demand) (positivePart cap)) × (r < 2147483648) ⌝ }
 {
-    lesser(
-        base::positive_part(berth.demand),
-        base::positive_part(berth.cap),
-    )
+    lesser(base::positive_part(demand), base::positive_part(cap))
 }
 
 // What a berth gets beyond its first part, of what is left.
@@ -45,23 +41,22 @@ fn beyond_first(left: u32, first: u32, wanted: u32) -> u32
     lesser(left, minus(wanted, first))
 }
 
-// The berth with another allotment.
-fn with_allotment(mut berth: Berth, watts: u32) -> Berth
+// Watts as a berth holds them.
+fn signed(watts: u32) -> i32
     requires { ⌜ watts < 2147483648 ⌝ }
-    ensures { λ r. ⌜ r ≡ withAllotment berth watts ⌝ }
+    ensures { λ r. ⌜ r ≡ pos watts ⌝ }
 {
-    berth.allotment = watts as i32;
-    berth
+    watts as i32
 }
 
 // A berth's share of what is left.
-pub(crate) fn share_of(left: u32, berth: Berth) -> Share
-    ensures { λ r. ⌜ r ≡ shareOf left berth ⌝ }
+pub(crate) fn share_of(left: u32, guarantee: i32, cap: i32, demand: i32) -> Share
+    ensures { λ r. ⌜ r ≡ shareOf left guarantee cap demand ⌝ }
 {
-    let first = first_part(berth);
-    let more = beyond_first(left, first, wanted(berth));
+    let first = first_part(guarantee, demand);
+    let more = beyond_first(left, first, wanted(cap, demand));
     Share {
-        berth: with_allotment(berth, first + more),
+        allotment: signed(first + more),
         left: minus(left, more),
     }
 }

@@ -1,6 +1,6 @@
 -- The laws of bills: one induction over the rate number, one over the row.
 use Rattle.base.proofs.Prelude.{_≡_, refl, sym, ap, ap₂, _∙_, Bool, true, false, not, cond, List, [], _∷_, _++_, map, ℕ, zero, suc, _+_, _*_, _/_, _%_, _<_}
-use Rattle.base.proofs.Prelude.{arith, leb, getD, zero-add, List·getD-map}
+use Rattle.base.proofs.Prelude.{arith, leb, leb-false, getD, zero-add, List·getD-map}
 use native.Mathlib.Nat.{mul-add, mul-zero}
 use lib.IntN.{ℤ}
 use Rattle.base.specs.Numbers.{positivePart}
@@ -37,15 +37,22 @@ after zero rest ps es h = rest-only rest h
 after (suc k) rest ps es h = ap (λ (c : Charge). withRate c (priceAt ps k) (importAt es k)) (after k rest ps es h) ∙ rate-next rest k ps es
 
 -- ---- an accepted bill
-taken : (x y z : Bool) (d c : Charge) → cond x (Refused 28) (cond y (Refused 29) (cond z (Refused 30) (Accepted d))) ≡ Accepted c → c ≡ d
+taken : (x y z : Bool) (d c : Charge) → cond x (Refused 28) (cond y (Refused 29) (cond z (Refused 30) (Accepted d))) ≡ Accepted c → (y ≡ false) × (c ≡ d)
 taken true y z d c e = let f : _≡_ {A = ℕ} 0 1 = cc in absurd (omega arith)
 taken false true z d c e = let f : _≡_ {A = ℕ} 0 1 = cc in absurd (omega arith)
 taken false false true d c e = let f : _≡_ {A = ℕ} 0 1 = cc in absurd (omega arith)
-taken false false false d c e = cc
+taken false false false d c e = (refl, cc)
 
-accepted : (rest : ℕ) (ps : List ℕ) (es : List Energy) (c : Charge) → billed rest ps es ≡ Accepted c → ExactCharge (c .cents) (c .rest) (rest + costs 4 ps es)
-unfolding billed
-accepted rest ps es c e = rw (taken (not (arePrices ps)) (leb 3600000 rest) (not (areImports es)) _ c e) (exactly (rest + costs 4 ps es))
+module _ (rest : ℕ) (ps : List ℕ) (es : List Energy) (c : Charge) (e : billed rest ps es ≡ Accepted c) where
+  tested : (leb 3600000 rest ≡ false) × (c ≡ chargeOf (rest + costs 4 ps es))
+  unfolding billed
+  tested = taken (not (arePrices ps)) (leb 3600000 rest) (not (areImports es)) (chargeOf (rest + costs 4 ps es)) c e
+
+  accepted : ExactCharge (c .cents) (c .rest) (rest + costs 4 ps es)
+  accepted = rw (tested .1) (exactly (rest + costs 4 ps es))
+
+  by-rates : c ≡ afterRates 4 rest ps es
+  by-rates = tested .1 ∙ sym (after 4 rest ps es (leb-false 3600000 rest (tested .0)))
 
 -- ---- a row, whatever the prices
 allCosts : List (List ℕ × List Energy) → ℕ
@@ -124,6 +131,7 @@ samples-amount (xss ∷ rest) k =
 pub laws : Laws
 laws = record {
   after-rates = λ k rest ps es h. rw (after k rest ps es h) (exactly (rest + costs k ps es));
+  by-rates = by-rates;
   one-bill = accepted;
   row = row;
   row-joined = λ ps ess js sum last r h. rw (← same ps (energyAt ess) (λ k. amountOf (importAt js k)) (λ k l. joined-amount ess k (importAt js k) (h k l))) (row ps ess sum last r);

@@ -67,6 +67,9 @@ pub record Laws : Type 0 where
   -- 'The fact is shown over the rate number': after any number of rates, each reduced at once, nothing is lost
   pub after-rates : (k rest : ℕ) (ps : List ℕ) (es : List Energy) → rest < 3600000
       → ExactCharge (afterRates k rest ps es .cents) (afterRates k rest ps es .rest) (rest + charged k ps (λ j. amountOf (importAt es j)))
+  -- and so is a bill made ('The fact is shown over the rate number'): cents and rest of an accepted one are those after the four rates, each with its
+  -- own price and its own import
+  pub by-rates : (rest : ℕ) (ps : List ℕ) (es : List Energy) (c : Charge) → billed rest ps es ≡ Accepted c → c ≡ afterRates 4 rest ps es
   -- one bill
   pub one-bill : (rest : ℕ) (ps : List ℕ) (es : List Energy) (c : Charge) → billed rest ps es ≡ Accepted c
       → ExactCharge (c .cents) (c .rest) (rest + charged 4 ps (λ j. amountOf (importAt es j)))

@@ -12,7 +12,7 @@ returns c =
       first .first-part .ensures .0,
       first .before .minus .ensures,
       faulty .is-faulty .ensures,
-      faulty .before .before .before .positive-part .ensures .0,
+      faulty .before .positive-part .ensures .0,
     )
 
 pub with-berth-spec : {M : Type 1} → statement M
