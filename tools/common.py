@@ -1,5 +1,7 @@
-"""What `page` and `table` share: bytes given raw or as digits, and the rules of an event table."""
+"""What the tools share: words that are refused; for `page` and `table` bytes given raw or as
+digits, and the rules of an event table."""
 
+import argparse
 import codecs
 import string
 import struct
@@ -9,6 +11,21 @@ LINE, MOST, NO_BIT = 4, 64, 255
 
 # The codes that the meter logs by itself (document 01), which a table may not list.
 BARRED = {4, 5, 10, 11, *range(59, 68), 69, 255}
+
+
+class Words(argparse.ArgumentParser):
+    """The words behind a tool's name.  Those that it does not know end it with one line and status
+    2, so that a misspelt option does not pass for a check that was made."""
+
+    def __init__(self, tool, text):
+        super().__init__(prog=tool, allow_abbrev=False)
+        self.text = text
+
+    def format_help(self):
+        return self.text.lstrip('\n')
+
+    def error(self, message):
+        self.exit(2, f'{self.prog}: {message}; see --help\n')
 
 
 class Fault(Exception):

@@ -14,7 +14,7 @@ use Rattle.logs.specs.Layout.{padded, flat, laid, listsOf, soundLogs}
 use Rattle.calls.specs.Calls.{callOf}
 use Rattle.meter.specs.{Settings.freshAnswer, Sound.soundMeter, Machine.applied, Machine.commanded}
 use Rattle.steps.specs.Scalars.{soundScalars}
-use Rattle.machine.specs.Machine.{requestResult, sampleResult, modeResult, scriptResult}
+use Rattle.machine.specs.Machine.{requestResult, sampleResult, modeResult, eventResult, scriptResult}
 use Rattle.replay.specs.Listing.{digits, decimal, field, lineBytes}
 use Rattle.listing.specs.{Lines.linesFrom, Listing.listingOf}
 use Rattle.listing.specs.Examples.{Examples}
@@ -23,5 +23,5 @@ pub examples : Examples
 unfolding listingOf linesFrom flatMap decimal digits field lineBytes be numAt freshAnswer callOf commanded applied soundMeter soundScalars
     soundControl soundLimiter soundAlarms bit howMany soundEmergency soundLogs soundArrays soundLog ownCodes zeroPast padded flat laid listsOf changed
     newest among every any below
-    gathered eachFrom builtIn lookup besides mayHold switchTable decision modeDecision watched requestResult sampleResult modeResult scriptResult
-examples = record { empty = refl; first-cut = refl; bad = refl; refused = refl; cut = refl; taken = refl; worked = refl }
+    gathered eachFrom builtIn lookup besides mayHold switchTable decision modeDecision watched requestResult sampleResult modeResult eventResult scriptResult
+examples = record { empty = refl; first-cut = refl; bad = refl; refused = refl; cut = refl; taken = refl; events = refl; worked = refl }

@@ -1,15 +1,19 @@
 -- A page that is read holds a sound record, and calls keep it sound, so that the writer takes it: the page after a call is that of the machine's
 -- record, and after a list of calls that of the account.
 use mathlib.Core.Path.{_≡_, refl, sym, ap, _∙_}
-use mathlib.Core.Bool.{true, false, cond}
-use mathlib.Core.List.{List, [], _∷_, _++_}
-use Prim.Native.Nat.{ℕ}
+use mathlib.Core.Bool.{true, false, cond, _&&_}
+use mathlib.Core.List.{List, [], _∷_, _++_, map, flatMap}
+use mathlib.Core.Logic.{_↔_}
+use Prim.Native.Nat.{ℕ, _≤_, _/_, _%_}
 use native.Mathlib.Omega.{arith}
-use lib.Dec.{eqb, leb}
+use lib.Dec.{eqb, leb, ltb}
+use lib.IntN.{pos}
+use lib.Signed.{leZ}
 use lib.ListN.{length, drop}
-use borrow.Author.Tests.{le-leb}
+use borrow.Author.Tests.{le-leb, leb-true}
 use Rattle.base.specs.Tests.{every, within}
-use Rattle.base.proofs.Bools.{and-left}
+use Rattle.base.proofs.Bools.{and-left, and-right}
+use Rattle.codec.specs.BigEndian.{be}
 use Rattle.codec.specs.Lawful.{Bytes}
 use Rattle.events.specs.Table.{EventRow, builtIn, lawful}
 use Rattle.events.proofs.Rule.{built-in-lawful}
@@ -20,36 +24,62 @@ use Rattle.calls.specs.declared.Answer.{Answer}
 use Rattle.calls.specs.declared.Answer.the-variants.{Accepted, Refused}
 use Rattle.calls.specs.declared.Letter.the-variants.{None}
 use Rattle.calls.specs.Calls.{answerNumber, letterByte}
+use Rattle.control.specs.Control.{soundControl}
+use Rattle.limiter.specs.Limiter.{isDuration}
+use Rattle.history.proofs.RemoteDisconnect.{remote-disconnect-holds}
+use Rattle.machine.specs.Settings.{limitsAnswer}
+use Rattle.machine.specs.Sound.{soundValues, soundState}
+use Rattle.machine.proofs.Preserved.{control-sound}
 use Rattle.page.proofs.Tests.{all-passed}
 use Rattle.replay.specs.Numbers.{numberOr, ifAccepted}
-use Rattle.replay.proofs.Numbers.{kept-answer, kept-bytes, kept-written, kept-page, kept-same, read-same, number-of}
+use Rattle.replay.proofs.Numbers.{kept-answer, kept-bytes, kept-written, kept-page, kept-same, read-same, number-of, read-zero, read-refused}
+use Rattle.replay.proofs.Numbers.{zero-exactly, numbers-tell}
 use Rattle.phases.specs.declared.ThreePhaseCall.{ThreePhaseCall}
 use Rattle.phases.specs.declared.ThreePhaseCommand.{ThreePhaseCommand}
 use Rattle.phases.specs.declared.ThreePhaseParsed.{ThreePhaseParsed}
 use Rattle.phases.specs.declared.ThreePhaseParsed.the-variants.{Ok, NoKind}
 use Rattle.phases.specs.Calls.{threePhaseCallOf, ThreePhaseInRange, AllThreePhaseInRange}
-use Rattle.phases.specs.ThreePhase.{ThreePhaseFresh, threePhaseAccount, threePhaseLetter}
+use Rattle.phases.specs.ThreePhase.{ThreePhaseFresh, ThreePhaseAccount, inOrder, asAnyFresh, asAnyCall, threePhaseAccount, threePhaseLetter}
 use Rattle.phases.proofs.Named.{laws as call-laws}
 use Rattle.phases_meter.specs.declared.ThreePhaseMeter.{ThreePhaseMeter}
 use Rattle.phases_meter.specs.declared.ThreePhaseOutcome.{ThreePhaseOutcome}
 use Rattle.phases_meter.specs.State.{threePhaseRecordOf, soundThreePhaseMeter}
 use Rattle.phases_meter.specs.Machine.{threePhaseApplied, threePhasePerformed, threePhaseCommanded, threePhaseRecordAfter}
-use Rattle.phases_meter.specs.Settings.{ThreePhaseSettings, ThreePhaseSettingsInRange}
+use Rattle.phases_meter.specs.Settings.{ThreePhaseSettings, ThreePhaseSettingsInRange, threePhaseFreshAnswer}
+use Rattle.phases_meter.specs.Holding.{threePhaseHolding}
+use Rattle.phases_meter.proofs.Simulates.{account-sound}
 use Rattle.phases_meter.specs.Fresh.{threePhaseFreshState, threePhaseFreshOf, threePhaseRefusedOutcome}
 use Rattle.phases_meter.proofs.Accepting.{fresh-laws}
 use Rattle.phases_meter.proofs.Laws as meter
 use Rattle.phases_page.specs.Layout.{threePhaseLayout, threePhaseStart, threePhaseSize, threePhasePageOf, threePhaseWriteAnswer, threePhaseWritten}
 use Rattle.phases_page.specs.Layout.{threePhaseAcceptedOutcome, threePhaseHasPairs, threePhaseMeterIn, threePhaseHoldsSound, threePhaseReadOf}
 use Rattle.phases_page.specs.Laws.{ThreePhaseTyped}
-use Rattle.phases_page.specs.AccountPage.{threePhaseAccountPage}
+use Rattle.phases_page.specs.AccountPage.{threePhasePageLength, threePhaseAccountPage}
+use Rattle.phases_page.specs.Demand3.{ThreePhaseTrace}
+use Rattle.phases_page.proofs.Traces as traces
 use Rattle.phases_page.proofs.RoundTrip as roundtrip
 use Rattle.phases_page.proofs.Ranges.{account-typed}
 use Rattle.phases_page.proofs.Printed.{list-written}
-use Rattle.phases_replay.specs.Replay.{threePhaseWithCall, threePhaseCallsIn, threePhaseMeterAfter}
+use Rattle.phases_replay.specs.Replay.{threePhaseWithCall, threePhaseCallsIn, threePhaseMeterAfter, threePhaseRecordLength, threePhaseFirstIn}
+use Rattle.phases_replay.specs.Replay.{threePhaseSettingsIn, threePhaseReplayAnswer}
 use Rattle.phases_interface.specs.Interface.{threePhaseKeptNumber, threePhaseKeptPage, threePhaseFreshNumber, threePhaseFreshPage, threePhaseOutcomeOn}
 use Rattle.phases_interface.specs.Interface.{threePhasePerformedNumber, threePhasePerformedPage, threePhasePerformedLetter, threePhaseCallNumber}
-use Rattle.phases_interface.specs.Interface.{threePhaseCallPage, threePhaseCallLetter}
-use Rattle.phases_interface.specs.Laws.{threePhaseCallPages, LawsOf, Laws}
+use Rattle.phases_interface.specs.Interface.{threePhaseCallPage, threePhaseCallLetter, threePhaseCheckNumber}
+use Rattle.phases_interface.specs.Laws.{threePhaseCallPages, ThreePhaseFromFresh, threePhaseSwitchIn, HoldsThreePhase, LawsOf, Laws}
+use Rattle.phases_interface.specs.Laws.{ThreePhaseCallsCompared, ThreePhaseReplayNumbers}
+
+-- a switch that is a position is one byte of the page
+page-switch : (a : ThreePhaseAccount) → a .switch ≤ 2 → threePhaseSwitchIn (threePhaseAccountPage a) ≡ a .switch
+unfolding threePhaseAccountPage flatMap be
+page-switch a h =
+    let byte : threePhaseSwitchIn (threePhaseAccountPage a) ≡ a .switch / 1 % 256 = refl in
+    omega (arith, byte)
+
+sound-switch : (rows : List EventRow) (a : ThreePhaseAccount) → soundState rows (threePhaseHolding a) ≡ true → a .switch ≤ 2
+unfolding soundState soundControl
+sound-switch rows a e =
+    let control = control-sound (threePhaseHolding a .values) (and-left (soundValues (threePhaseHolding a .values)) _ e) in
+    leb-true (a .switch) 2 (and-right (leb (a .mode) 6) _ (and-left (leb (a .mode) 6 && leb (a .switch) 2) _ control))
 
 module _ (rows : List EventRow) where
   -- ---- a sound record goes to the writer
@@ -106,6 +136,17 @@ module _ (rows : List EventRow) where
         go : (p : ThreePhaseParsed) → threePhaseCallOf r ≡ p → threePhasePerformedNumber rows page p ≡ n
         go (Ok c) names = rw e
         go NoKind names = absurd (call-laws .some-kind r in-kinds names)
+
+    -- ---- `check_page`
+
+    check-call : within 1 15 (r .kind) ≡ true → (threePhaseCheckNumber rows page ≡ 0 → ⊥) → threePhaseCallNumber rows page r ≡ threePhaseCheckNumber rows page
+    check-call in-kinds some = unread (threePhaseCheckNumber rows page) in-kinds (read-refused (threePhaseReadOf rows page .answer) some)
+
+  check-zero : (page : List ℕ) → (threePhaseCheckNumber rows page ≡ 0) ↔ (threePhaseReadOf rows page .answer ≡ Accepted)
+  unfolding threePhaseReadOf
+  check-zero page =
+      read-zero (λ (o : ThreePhaseOutcome). o .answer) (threePhaseAcceptedOutcome (threePhaseMeterIn page)) threePhaseRefusedOutcome refl (λ n. refl)
+      (eqb (length page) threePhaseSize) (threePhaseHasPairs page) (threePhaseHoldsSound rows page)
 
 -- the record of such a page, and its page
 record Read (rows : List EventRow) (page : List ℕ) (m : ThreePhaseMeter) : Type 0 where
@@ -306,6 +347,15 @@ module _ (rows : List EventRow) (table : every lawful rows ≡ true) where
         ∙ ap threePhasePageOf (meter.laws .1 rows table .simulates f (threePhaseCallsIn rs) accepted i)
         ∙ sym (list-written rows table f (threePhaseCallsIn rs) accepted i)
 
+    -- document 02, A7, by the switch that the page says
+    disconnect-holds : AllThreePhaseInRange (threePhaseCallsIn rs)
+        → HoldsThreePhase (0 ∷ 2 ∷ 4 ∷ []) rows f (threePhaseCallsIn rs) (threePhaseSwitchIn (threePhaseCallPages rows (threePhaseFreshPage rows page f) rs))
+    disconnect-holds i v d q =
+        let a = threePhaseAccount rows f (threePhaseCallsIn rs) in
+        let shown = page-switch a (sound-switch rows a (account-sound rows table f accepted (threePhaseCallsIn rs) i)) in
+        remote-disconnect-holds .anyHolds rows (asAnyFresh f) (map asAnyCall (threePhaseCallsIn rs)) v d
+        (sym (ap threePhaseSwitchIn (account-page i) ∙ shown) ∙ q)
+
     account-letter : (r : ThreePhaseCommand) (c : ThreePhaseCall) → AllThreePhaseInRange (c ∷ threePhaseCallsIn rs) → threePhaseCallOf r ≡ Ok c
         → threePhaseCallLetter rows (threePhaseCallPages rows (threePhaseFreshPage rows page f) rs) r
         ≡ letterByte (threePhaseLetter rows f (threePhaseCallsIn rs) c)
@@ -333,6 +383,10 @@ laws-of rows table =
       fresh-answer = λ page f range. sound-answer rows (threePhaseFreshOf f) page (fresh-sound rows table f range);
       call-no-kind = no-kind rows;
       call-unread = unread rows;
+      check-zero = check-zero rows;
+      check-call = check-call rows;
+      disconnect-holds = λ page f rs from.
+          disconnect-holds rows table page f rs (from .whole) (from .accepted) (from .settings-in-range) (from .calls-in-range);
       call-answer = λ page r bytes e i. answer-on rows table (from-page rows table page bytes e) r i;
       call-page = λ page r bytes e i. page-on rows table (from-page rows table page bytes e) r i;
       fresh-refused = λ page f. refused-bytes rows (threePhaseFreshOf f) page;
@@ -344,3 +398,37 @@ laws-of rows table =
 
 pub laws : Laws
 laws table bytes = laws-of (tableOf table) (bytes-lawful table bytes)
+
+-- the trace of calls from C
+abbrev list-trace : (rows : List EventRow) → every lawful rows ≡ true → (page : List ℕ) (f : ThreePhaseFresh) (rs : List ThreePhaseCommand)
+    → ThreePhaseFromFresh page f rs → ThreePhaseTrace
+list-trace rows table page f rs from =
+    record {
+      rows = rows;
+      settings = f;
+      calls = threePhaseCallsIn rs;
+      lawful-rows = table;
+      accepted = from .accepted;
+      settings-in-range = from .settings-in-range;
+      calls-in-range = from .calls-in-range;
+    }
+
+pub compared : ThreePhaseCallsCompared
+compared table table′ bytes bytes′ page page′ f g rs ss from from′ =
+    let t = list-trace (tableOf table) (bytes-lawful table bytes) page f rs from in
+    let u = list-trace (tableOf table′) (bytes-lawful table′ bytes′) page′ g ss from′ in
+    let first = laws table bytes .account-page page f rs (from .whole) (from .accepted) (from .settings-in-range) (from .calls-in-range) in
+    let second = laws table′ bytes′ .account-page page′ g ss (from′ .whole) (from′ .accepted) (from′ .settings-in-range) (from′ .calls-in-range) in
+    (λ e. traces.same-account t u (sym first ∙ e ∙ second), λ e. first ∙ ap threePhaseAccountPage e ∙ sym second)
+
+-- ---- the numbers of a whole list
+
+pub replay-numbers : ThreePhaseReplayNumbers
+unfolding threePhaseReplayAnswer threePhaseFreshAnswer limitsAnswer every
+replay-numbers =
+    numbers-tell threePhaseReplayAnswer (λ s out.
+    let first = threePhaseFirstIn s in
+    let f = threePhaseSettingsIn first in
+    zero-exactly (eqb (length s) 0) (ltb (length s) threePhaseRecordLength) (eqb (first .kind) 0) (leb (f .mode) 6)
+    (every (leZ (pos 0)) (inOrder (f .l1) (f .l2) (f .l3) (f .sum))) (isDuration (f .over) && isDuration (f .under))
+    (eqb (length s % threePhaseRecordLength) 0) (leb threePhasePageLength (length out)))

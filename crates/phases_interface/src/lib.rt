@@ -10,7 +10,7 @@ ghost use Rattle.phases_meter.specs.Settings.{threePhaseSettingsOf};
 ghost use Rattle.replay.specs.Numbers.{replayNumber};
 ghost use Rattle.phases_replay.specs.Replay.{threePhaseReplayAnswer, threePhaseReplayed};
 ghost use Rattle.phases_interface.specs.Interface.{threePhaseFreshNumber, threePhaseFreshPage, ThreePhaseCalled, threePhaseCheckNumber};
-ghost use Rattle.phases_interface.specs.Laws.{Laws};
+ghost use Rattle.phases_interface.specs.Laws.{Laws, ThreePhaseCallsCompared, ThreePhaseReplayNumbers};
 use calls::Answer;
 use phases::ThreePhaseCommand;
 use phases::ThreePhaseParsed;
@@ -52,10 +52,10 @@ pub fn call_on_page(
 ) -> u32
     ensures { λ r. ⌜ ThreePhaseCalled (tableOf (now (table .entry))) (now (page .entry)) command r (now (page .exit)) (now (letter .exit)) ⌝ }
     ensures laws { λ _. ⌜ Laws ⌝ }
+    ensures compared { λ _. ⌜ ThreePhaseCallsCompared ⌝ }
 {
     *letter = 0;
-    let parsed = phases::read_command(command);
-    let ThreePhaseParsed::Ok(call) = parsed else {
+    let ThreePhaseParsed::Ok(call) = phases::read_command(command) else {
         return 13;
     };
     let index = tables::index_of(table);
@@ -93,6 +93,7 @@ pub fn call_on_page(
 // 102 if a record is cut short; 1, 4, 5 and 8 as `fresh_page`.
 pub fn replay_page(records: &[u8], table: &[u8], page: &mut [u8]) -> u32
     ensures { λ r. ⌜ (r ≡ replayNumber (threePhaseReplayAnswer (now (records .entry)) (now (page .entry)))) × (now (page .exit) ≡ threePhaseReplayed (tableOf (now (table .entry))) (now (records .entry)) (now (page .entry))) ⌝ }
+    ensures numbers { λ _. ⌜ ThreePhaseReplayNumbers ⌝ }
 {
     let index = tables::index_of(table);
     phases_replay::replay_three_phase(&index, records, page).number()

@@ -3,6 +3,7 @@
 use mathlib.Core.Path.{_≡_, refl, sym, ap, _∙_}
 use mathlib.Core.Bool.{true, false, cond}
 use mathlib.Core.List.{List, [], _∷_, _++_}
+use mathlib.Core.Logic.{_↔_}
 use Prim.Native.Nat.{ℕ}
 use native.Mathlib.Omega.{arith}
 use lib.Dec.{eqb, leb}
@@ -26,6 +27,8 @@ use Rattle.calls.specs.declared.Parsed.the-variants.{Ok, NoKind}
 use Rattle.calls.specs.Calls.{answerNumber, letterByte, callOf, InRange, AllInRange}
 use Rattle.calls.proofs.Named.{laws as call-laws}
 use Rattle.history.specs.OnePhase.{Fresh, account, letter}
+use Rattle.history.specs.RemoteDisconnect.{HoldsOnePhase}
+use Rattle.history.proofs.RemoteDisconnect.{remote-disconnect-holds}
 use Rattle.meter.specs.declared.Meter.{Meter}
 use Rattle.meter.specs.declared.Outcome.{Outcome}
 use Rattle.meter.specs.State.{recordOf}
@@ -33,6 +36,7 @@ use Rattle.meter.specs.Sound.{soundMeter}
 use Rattle.meter.specs.Machine.{applied, performed, commanded, recordAfter}
 use Rattle.meter.specs.Settings.{Settings, SettingsInRange}
 use Rattle.meter.specs.Fresh.{freshState, freshOf, refusedOutcome}
+use Rattle.meter.proofs.Simulates.{account-sound}
 use Rattle.meter.proofs.Accepting.{fresh-laws}
 use Rattle.meter.proofs.Laws as meter
 use Rattle.page.specs.Layout.{layout, start, size, pageOf, writeAnswer, written, acceptedOutcome, hasPairs, meterIn, holdsSound, readOf}
@@ -44,10 +48,14 @@ use Rattle.page.proofs.Ranges.{account-typed}
 use Rattle.page.proofs.Printed.{list-written}
 use Rattle.replay.specs.Replay.{withCall, callsIn, nextOf, meterAfter}
 use Rattle.replay.specs.Numbers.{numberOr, ifAccepted}
-use Rattle.replay.proofs.Numbers.{kept-answer, kept-bytes, kept-written, kept-page, kept-same, read-same, number-of}
+use Rattle.replay.proofs.Numbers.{kept-answer, kept-bytes, kept-written, kept-page, kept-same, read-same, number-of, read-zero, read-refused}
+use Rattle.replay.specs.Laws.{switchIn}
+use Rattle.replay.proofs.Inputs.{page-switch, sound-switch}
 use Rattle.pillar.specs.Interface.{keptNumber, keptPage, outcomeOn, performedNumber, performedPage, freshNumber, freshPage, callNumber, callPage}
-use Rattle.pillar.specs.Interface.{performedLetter, callLetter}
-use Rattle.pillar.specs.Laws.{callPages, LawsOf, Laws}
+use Rattle.pillar.specs.Interface.{performedLetter, callLetter, checkNumber}
+use Rattle.page.specs.Demand3.{Trace}
+use Rattle.page.proofs.Traces as traces
+use Rattle.pillar.specs.Laws.{callPages, LawsOf, Laws, pageFrom, FromFresh, CallsCompared}
 
 module _ (rows : List EventRow) where
   -- ---- a sound record goes to the writer
@@ -99,6 +107,17 @@ module _ (rows : List EventRow) where
         go : (p : Parsed) → callOf r ≡ p → performedNumber rows page p ≡ n
         go (Ok c) names = rw e
         go NoKind names = absurd (call-laws .some-kind r in-kinds names)
+
+    -- ---- `pillar_check`
+
+    check-call : within 1 17 (r .kind) ≡ true → (checkNumber rows page ≡ 0 → ⊥) → callNumber rows page r ≡ checkNumber rows page
+    check-call in-kinds some = unread (checkNumber rows page) in-kinds (read-refused (readOf rows page .answer) some)
+
+  check-zero : (page : List ℕ) → (checkNumber rows page ≡ 0) ↔ (readOf rows page .answer ≡ Accepted)
+  unfolding readOf
+  check-zero page =
+      read-zero (λ (o : Outcome). o .answer) (acceptedOutcome (meterIn page)) refusedOutcome refl (λ n. refl) (eqb (length page) size) (hasPairs page)
+      (holdsSound rows page)
 
 -- the record of such a page, and its page
 pub record Read (rows : List EventRow) (page : List ℕ) (m : Meter) : Type 0 where
@@ -282,6 +301,14 @@ module _ (rows : List EventRow) (table : every lawful rows ≡ true) where
         ∙ ap pageOf (meter.laws .1 rows table .simulates f (callsIn rs) accepted i)
         ∙ sym (list-written rows table f (callsIn rs) accepted i)
 
+    -- document 02, A7, by the switch that the page says
+    disconnect-holds : AllInRange (callsIn rs)
+        → HoldsOnePhase (0 ∷ 2 ∷ 4 ∷ []) rows f (callsIn rs) (switchIn (callPages rows (freshPage rows page f) rs))
+    disconnect-holds i v d q =
+        let a = account rows f (callsIn rs) in
+        let shown = page-switch a (sound-switch rows a (account-sound rows table f accepted (callsIn rs) i)) in
+        remote-disconnect-holds .onePhaseHolds rows f (callsIn rs) v d (sym (ap switchIn (account-page i) ∙ shown) ∙ q)
+
     account-letter : (r : Command) (c : Call) → AllInRange (c ∷ callsIn rs) → callOf r ≡ Ok c
         → callLetter rows (callPages rows (freshPage rows page f) rs) r ≡ letterByte (letter rows f (callsIn rs) c)
     unfolding callLetter
@@ -307,6 +334,10 @@ laws-of rows table =
       fresh-answer = λ page f range. sound-answer rows (freshOf f) page (fresh-sound rows table f range);
       call-no-kind = no-kind rows;
       call-unread = unread rows;
+      check-zero = check-zero rows;
+      check-call = check-call rows;
+      disconnect-holds = λ page f rs from.
+          disconnect-holds rows table page f rs (from .whole) (from .accepted) (from .settings-in-range) (from .calls-in-range);
       call-answer = λ page r bytes e i. answer-on rows table (from-page rows table page bytes e) r i;
       call-page = λ page r bytes e i. page-on rows table (from-page rows table page bytes e) r i;
       fresh-refused = λ page f. refused-bytes rows (freshOf f) page;
@@ -318,3 +349,24 @@ laws-of rows table =
 
 pub laws : Laws
 laws table bytes = laws-of (tableOf table) (bytes-lawful table bytes)
+
+-- the trace of calls from C
+abbrev list-trace : (rows : List EventRow) → every lawful rows ≡ true → (page : List ℕ) (f : Fresh) (rs : List Command) → FromFresh page f rs → Trace
+list-trace rows table page f rs from =
+    record {
+      rows = rows;
+      settings = f;
+      calls = callsIn rs;
+      lawful-rows = table;
+      accepted = from .accepted;
+      settings-in-range = from .settings-in-range;
+      calls-in-range = from .calls-in-range;
+    }
+
+pub compared : CallsCompared
+compared table table′ bytes bytes′ page page′ f g rs ss from from′ =
+    let t = list-trace (tableOf table) (bytes-lawful table bytes) page f rs from in
+    let u = list-trace (tableOf table′) (bytes-lawful table′ bytes′) page′ g ss from′ in
+    let first = laws table bytes .account-page page f rs (from .whole) (from .accepted) (from .settings-in-range) (from .calls-in-range) in
+    let second = laws table′ bytes′ .account-page page′ g ss (from′ .whole) (from′ .accepted) (from′ .settings-in-range) (from′ .calls-in-range) in
+    (λ e. traces.same-account t u (sym first ∙ e ∙ second), λ e. first ∙ ap accountPage e ∙ sym second)

@@ -2,3 +2,4 @@ pub mod Kept
 pub mod Laws
 pub mod Asked
 pub mod RequestLaws
+pub mod Places

@@ -19,7 +19,7 @@ use Rattle.calls.specs.declared.Answer.the-variants.{Accepted, Refused}
 use Rattle.calls.specs.declared.Command.{Command}
 use Rattle.calls.specs.declared.Parsed.{Parsed as CallParsed}
 use Rattle.calls.specs.declared.Parsed.the-variants as call-parsed
-use Rattle.calls.specs.Calls.{answerNumber, callOf, InRange, AllInRange}
+use Rattle.calls.specs.Calls.{answerNumber, letterByte, callOf, InRange, AllInRange}
 use Rattle.history.specs.OnePhase.{Fresh, account}
 use Rattle.requests.specs.declared.Parsed.{Parsed}
 use Rattle.requests.specs.declared.Parsed.the-variants.{Ok, NotWhole}
@@ -41,12 +41,12 @@ use Rattle.server.specs.Service.{Service, refusedWith, parsedOn, serviceSound, 
 use Rattle.server.specs.Laws.{isWhole}
 use Rattle.server.proofs.Laws.{unchanged}
 use Rattle.server.proofs.Kept.{kept-sound}
-use Rattle.server.specs.History.{request, AllInputsInRange, inputCalls, callsBehind}
-use Rattle.server.proofs.History.{range-append, record-append, reached, named, followed}
+use Rattle.server.specs.History.{request, AllInputsInRange, inputCalls, callsBehind, InputTrace, traceCalls, inputAccount, lastOf}
+use Rattle.server.proofs.History.{range-append, record-append, reached, named, followed, at-most-one, requests-counted}
 use Rattle.replay.specs.Numbers.{numberOr}
 use Rattle.pillar.specs.Interface.{freshPage, callPage}
 use Rattle.pillar.specs.Request.{readFirst, serviceOn, requestNumber, requestPage, requestBuffer, requestLength, requestLetter}
-use Rattle.pillar.specs.RequestLaws.{Sent, command, bytes, sentPages, parsedInput, inputsIn, RequestLawsOf, RequestLaws}
+use Rattle.pillar.specs.RequestLaws.{Sent, command, bytes, sentPages, parsedInput, inputsIn, letterOfNamed, RequestLawsOf, RequestLaws}
 use Rattle.pillar.proofs.Laws.{Read, page-on, from-page, from-record, fresh-written}
 
 module _ (rows : List EventRow) (m : Meter) where
@@ -251,6 +251,44 @@ account-of rows table page f xs whole e range i =
     ap (λ (page : List ℕ). sentPages rows page xs) (fresh-written rows table page f whole e range) ∙ pages-from rows table f t xs [] i tt
     ∙ ap pageOf (meter.laws .1 rows table .simulates f calls t in-range) ∙ sym (list-written rows table f calls t in-range)
 
+-- ---- the letter of a request behind calls and requests
+
+named-letter : (t : InputTrace) (s l : List ℕ) → Bytes s
+    → service (t .rows) (lastOf t) s l .letter
+    ≡ letterOfNamed (t .rows) (t .settings) (traceCalls t) (inputCalls (inputAccount t) (request s l))
+named-letter t s l b = go (inputCalls (inputAccount t) (request s l)) refl
+  where
+    go : (cs : List Call) → inputCalls (inputAccount t) (request s l) ≡ cs
+        → service (t .rows) (lastOf t) s l .letter ≡ letterOfNamed (t .rows) (t .settings) (traceCalls t) cs
+    go [] e = requests-counted .unlettered t s l b e
+    go (c ∷ []) e = requests-counted .lettered t s l c b e
+    go (c ∷ (d ∷ cs)) e = absurd (at-most-one (inputAccount t) s l c d cs e)
+
+letter-of : (rows : List EventRow) (table : every lawful rows ≡ true) (page : List ℕ) (f : Fresh) (xs : List Sent) (s l : List ℕ) → length page ≡ size
+    → freshOf f .answer ≡ Accepted → SettingsInRange f → AllInputsInRange (inputsIn xs) → Bytes s
+    → let calls = callsBehind rows f [] (inputsIn xs) in
+    requestLetter rows (sentPages rows (freshPage rows page f) xs) s l
+    ≡ letterByte (letterOfNamed rows f calls (inputCalls (account rows f calls) (request s l)))
+unfolding recordAfter requestLetter
+letter-of rows table page f xs s l whole e range i b =
+    let t = fresh-laws .accepted-settings f range e in
+    let calls = callsBehind rows f [] (inputsIn xs) in
+    let ends = followed rows table f t (inputsIn xs) [] i tt in
+    let trace : InputTrace = record {
+      rows = rows;
+      settings = f;
+      inputs = inputsIn xs;
+      lawful-rows = table;
+      accepted = e;
+      settings-in-range = range;
+      inputs-in-range = i;
+    } in
+    let last : after rows table f t calls ≡ lastOf trace = sym (rw (fresh-laws .accepted-meter f e) (ends .1)) in
+    let here : sentPages rows (freshPage rows page f) xs ≡ pageOf (after rows table f t calls) =
+    ap (λ (page : List ℕ). sentPages rows page xs) (fresh-written rows table page f whole e range) ∙ pages-from rows table f t xs [] i tt in
+    rw (here, on-served rows table (from-record rows table f t calls (ends .0)) s l b)
+    (ap letterByte (ap (λ (m : Meter). service rows m s l .letter) last ∙ named-letter trace s l b))
+
 laws-of : (rows : List EventRow) → every lawful rows ≡ true → RequestLawsOf rows
 unfolding requestBuffer requestLength requestLetter
 laws-of rows table =
@@ -261,6 +299,7 @@ laws-of rows table =
           let k = from-page rows table page bytes e in
           (page-served rows table k s l b, rw (on-served rows table k s l b) (refl, (refl, refl)));
       request-account = account-of rows table;
+      request-letter = letter-of rows table;
     }
 
 pub request-laws : RequestLaws

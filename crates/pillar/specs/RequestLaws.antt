@@ -9,12 +9,15 @@ use Rattle.codec.specs.Lawful.{Bytes}
 use Rattle.events.specs.Table.{EventRow}
 use Rattle.tables.specs.Bytes.{tableOf}
 use Rattle.calls.specs.declared.Answer.the-variants.{Accepted}
+use Rattle.calls.specs.declared.Call.{Call}
+use Rattle.calls.specs.declared.Letter.{Letter}
+use Rattle.calls.specs.declared.Letter.the-variants.{None}
 use Rattle.calls.specs.declared.Command.{Command}
 use Rattle.calls.specs.declared.Parsed.{Parsed}
 use Rattle.calls.specs.declared.Parsed.the-variants.{Ok, NoKind}
 use Rattle.calls.specs.Calls.{callOf, letterByte}
 use Rattle.requests.specs.Requests.{requestIn}
-use Rattle.history.specs.OnePhase.{Fresh, account}
+use Rattle.history.specs.OnePhase.{Fresh, account, letter}
 use Rattle.meter.specs.declared.Meter.{Meter}
 use Rattle.meter.specs.Settings.{SettingsInRange}
 use Rattle.meter.specs.Fresh.{freshOf}
@@ -22,7 +25,7 @@ use Rattle.page.specs.Layout.{size, pageOf, readOf}
 use Rattle.page.specs.AccountPage.{accountPage}
 use Rattle.server.specs.Service.{service, filledBy}
 use Rattle.server.specs.Laws.{isWhole}
-use Rattle.server.specs.History.{Input, call, request, AllInputsInRange, callsBehind}
+use Rattle.server.specs.History.{Input, call, request, AllInputsInRange, inputCalls, callsBehind}
 use Rattle.replay.specs.Numbers.{numberOr}
 use Rattle.pillar.specs.Interface.{freshPage, callPage}
 use Rattle.pillar.specs.Request.{requestNumber, requestPage, requestBuffer, requestLength, requestLetter}
@@ -52,6 +55,11 @@ inputsIn [] = []
 inputsIn (command r ∷ xs) = parsedInput (callOf r) (inputsIn xs)
 inputsIn (bytes s buffer ∷ xs) = request s buffer ∷ inputsIn xs
 
+-- behind some calls, the letter of the call that an input names, if it names one
+abbrev pub letterOfNamed : List EventRow → Fresh → List Call → List Call → Letter
+letterOfNamed rows f calls [] = None
+letterOfNamed rows f calls (c ∷ cs) = letter rows f calls c
+
 -- of `pillar_request`, and of it among calls of `pillar_call`
 pub record RequestLawsOf (rows : List EventRow) : Type 0 where
   -- 21, then the reader's 9, 10 and 11, then 20, else 0
@@ -71,6 +79,12 @@ pub record RequestLawsOf (rows : List EventRow) : Type 0 where
   pub request-account : (page : List ℕ) (f : Fresh) (xs : List Sent) → length page ≡ size → freshOf f .answer ≡ Accepted → SettingsInRange f
       → AllInputsInRange (inputsIn xs)
       → sentPages rows (freshPage rows page f) xs ≡ accountPage (account rows f (callsBehind rows f [] (inputsIn xs)))
+  -- document 02, A2: behind them, a request that names a call leaves the letter that the account gives to that call, and one that names none leaves none
+  pub request-letter : (page : List ℕ) (f : Fresh) (xs : List Sent) (s buffer : List ℕ) → length page ≡ size → freshOf f .answer ≡ Accepted
+      → SettingsInRange f → AllInputsInRange (inputsIn xs) → Bytes s
+      → let calls = callsBehind rows f [] (inputsIn xs) in
+      requestLetter rows (sentPages rows (freshPage rows page f) xs) s buffer
+      ≡ letterByte (letterOfNamed rows f calls (inputCalls (account rows f calls) (request s buffer)))
 
 -- of every event table, given as any bytes
 abbrev pub RequestLaws : Type 0

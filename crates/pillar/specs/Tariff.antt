@@ -6,7 +6,7 @@ use lib.ListN.{getD}
 use Rattle.energy.specs.declared.Energy.{Energy}
 use Rattle.tariff.specs.declared.Billed.{Billed}
 use Rattle.tariff.specs.declared.Billed.the-variants.{Accepted, Refused}
-use Rattle.tariff.specs.Bills.{billedNumber}
+use Rattle.tariff.specs.Bills.{billedNumber, billed}
 
 -- watt-hours and watt-seconds at a place
 abbrev pub energyIn : List ℕ → ℕ → ℕ → Energy
@@ -30,3 +30,12 @@ pub record Billing (bill : Billed) (rest cents number rest′ cents′ : ℕ) : 
   pub answers : number ≡ billedNumber bill
   pub next-rest : rest′ ≡ restAfter bill rest
   pub next-cents : cents′ ≡ centsAfter bill cents
+
+-- of what is left behind the two pointers
+pub record BillLaws : Type 0 where
+  -- a refusal leaves both
+  pub refused-bill : (b : Billed) (rest cents : ℕ) → (billedNumber b ≡ 0 → ⊥) → (restAfter b rest ≡ rest) × (centsAfter b cents ≡ cents)
+  -- 5,000 watt-hours and 6 watt-seconds at 1,000 cents, and so on: each number in its place, rest and cents told apart
+  pub one-bill :
+      let b = billed 7 (1000 ∷ 200 ∷ 30 ∷ 4 ∷ []) (importsIn (5000 ∷ 6 ∷ 7000 ∷ 8 ∷ 9000 ∷ 11 ∷ 12000 ∷ 13 ∷ [])) in
+      (restAfter b 7 ≡ 7989) × (centsAfter b 9 ≡ 6718)

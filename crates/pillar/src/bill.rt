@@ -2,7 +2,7 @@
 // for each of the four rates.
 ghost use mathlib.Core.Path.{_≡_};
 ghost use Rattle.tariff.specs.Bills.{billed};
-ghost use Rattle.pillar.specs.Tariff.{importsIn, Billing};
+ghost use Rattle.pillar.specs.Tariff.{importsIn, Billing, BillLaws};
 use energy::Energy;
 use tariff::Billed;
 
@@ -28,6 +28,20 @@ fn imports_in(imports: &[u64; 8]) -> [Energy; 4]
     [first, second, third, fourth]
 }
 
+// Leaves the rest for the next bill and the cents of one that is not refused.
+fn settle(bill: Billed, rest: &mut u32, cents: &mut u64) -> u32
+    ensures { λ r. ⌜ Billing bill (now (rest .entry)) (now (cents .entry)) r (now (rest .exit)) (now (cents .exit)) ⌝ }
+{
+    match bill {
+        Billed::Refused(number) => number as u32,
+        Billed::Accepted(charge) => {
+            *rest = charge.rest;
+            *cents = charge.cents;
+            0
+        }
+    }
+}
+
 // One bill: `rest` is the rest of the bill before, and becomes that of this one. 28, 29 and 30 as
 // `tariff::bill`.
 #[no_mangle]
@@ -38,15 +52,9 @@ pub extern "C" fn tariff_bill(
     cents: &mut u64,
 ) -> u32
     ensures { λ r. ⌜ Billing (billed (now (rest .entry)) (now (prices .entry)) (importsIn (now (imports .entry)))) (now (rest .entry)) (now (cents .entry)) r (now (rest .exit)) (now (cents .exit)) ⌝ }
+    ensures laws { λ _. ⌜ BillLaws ⌝ }
 {
     let before = *rest;
     let at = *prices;
-    match tariff::bill(before, at, imports_in(imports)) {
-        Billed::Refused(number) => number as u32,
-        Billed::Accepted(charge) => {
-            *rest = charge.rest;
-            *cents = charge.cents;
-            0
-        }
-    }
+    settle(tariff::bill(before, at, imports_in(imports)), rest, cents)
 }

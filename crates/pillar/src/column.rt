@@ -12,8 +12,8 @@ fn number_of(answer: Answer) -> u32
     answer.number() as u32
 }
 
-// Fills the allotments of up to sixteen berths: 22, 23 and 24 as `berths::allot`, which reads all of
-// them, also where they are more.
+// Fills the allotments of up to sixteen berths: 22, 23 and 24 as `berths::allot`, which reads none of
+// them where they are more.
 #[no_mangle]
 pub extern "C" fn column_allot(limit: i32, berths: &mut [Berth]) -> u32
     ensures { λ r. ⌜ (r ≡ refusal limit (now (berths .entry))) × (now (berths .exit) ≡ filled limit (now (berths .entry))) ⌝ }

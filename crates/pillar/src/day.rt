@@ -3,7 +3,7 @@
 ghost use mathlib.Core.Path.{_≡_};
 ghost use Rattle.energy.specs.Days.{measuredNumber, measured};
 ghost use Rattle.energy.specs.Joins.{joinedDays};
-ghost use Rattle.pillar.specs.Energy.{dayIn, storedDay};
+ghost use Rattle.pillar.specs.Energy.{dayIn, storedDay, DayLaws};
 use energy::Day;
 use energy::Energy;
 use energy::Measured;
@@ -44,6 +44,7 @@ fn store(measured: Measured, day: &mut [u64; 4]) -> u32
 #[no_mangle]
 pub extern "C" fn energy_of_day(samples: &[i32], day: &mut [u64; 4]) -> u32
     ensures { λ r. ⌜ (r ≡ measuredNumber (measured (now (samples .entry)))) × (now (day .exit) ≡ storedDay (measured (now (samples .entry))) (now (day .entry))) ⌝ }
+    ensures laws { λ _. ⌜ DayLaws ⌝ }
 {
     store(energy::measure(samples), day)
 }
@@ -52,6 +53,7 @@ pub extern "C" fn energy_of_day(samples: &[i32], day: &mut [u64; 4]) -> u32
 #[no_mangle]
 pub extern "C" fn energy_join(day: &mut [u64; 4], other: &[u64; 4]) -> u32
     ensures { λ r. ⌜ (r ≡ measuredNumber (joinedDays (dayIn (now (day .entry))) (dayIn (now (other .entry))))) × (now (day .exit) ≡ storedDay (joinedDays (dayIn (now (day .entry))) (dayIn (now (other .entry)))) (now (day .entry))) ⌝ }
+    ensures laws { λ _. ⌜ DayLaws ⌝ }
 {
     let joined = energy::join_days(day_in(day), day_in(other));
     store(joined, day)

@@ -12,9 +12,9 @@ ghost use Rattle.tables.specs.Index.{tableIn};
 ghost use Rattle.calls.specs.Calls.{commandOf};
 ghost use Rattle.meter.specs.Settings.{settingsOf};
 ghost use Rattle.replay.specs.Replay.{replayAnswer, replayed};
-ghost use Rattle.replay.specs.Numbers.{replayNumber};
+ghost use Rattle.replay.specs.Numbers.{replayNumber, ReplayNumbers};
 ghost use Rattle.pillar.specs.Interface.{keptNumber, keptPage, freshNumber, freshPage, Called, checkNumber};
-ghost use Rattle.pillar.specs.Laws.{Laws};
+ghost use Rattle.pillar.specs.Laws.{Laws, CallsCompared};
 
 mod bill;
 mod column;
@@ -76,8 +76,7 @@ fn call_on_page(table: &[u16; 256], page: &mut [u8], command: Command, letter: &
     ensures { λ r. ⌜ Called (tableIn (now (table .entry))) (now (page .entry)) command r (now (page .exit)) (now (letter .exit)) ⌝ }
 {
     *letter = 0;
-    let parsed = calls::read_kind(command);
-    let Parsed::Ok(call) = parsed else {
+    let Parsed::Ok(call) = calls::read_kind(command) else {
         return 13;
     };
     let read = reader::read_page(table, page);
@@ -120,6 +119,7 @@ pub extern "C" fn pillar_call(
 ) -> u32
     ensures { λ r. ⌜ Called (tableOf (now (table .entry))) (now (page .entry)) (commandOf kind n1 n2 n3 n4 n5) r (now (page .exit)) (now (letter .exit)) ⌝ }
     ensures laws { λ _. ⌜ Laws ⌝ }
+    ensures compared { λ _. ⌜ CallsCompared ⌝ }
 {
     let index = tables::index_of(table);
     let command = Command {
@@ -139,6 +139,7 @@ pub extern "C" fn pillar_call(
 #[no_mangle]
 pub extern "C" fn pillar_replay(records: &[u8], table: &[u8], page: &mut [u8]) -> u32
     ensures { λ r. ⌜ (r ≡ replayNumber (replayAnswer (now (records .entry)) (now (page .entry)))) × (now (page .exit) ≡ replayed (tableOf (now (table .entry))) (now (records .entry)) (now (page .entry))) ⌝ }
+    ensures numbers { λ _. ⌜ ReplayNumbers ⌝ }
 {
     let index = tables::index_of(table);
     replay::replay(&index, records, page).number()

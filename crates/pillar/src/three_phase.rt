@@ -8,7 +8,7 @@ ghost use Rattle.phases.specs.Calls.{threePhaseCommandOf};
 ghost use Rattle.phases_meter.specs.Settings.{threePhaseSettingsOf};
 ghost use Rattle.phases_replay.specs.Replay.{threePhaseReplayAnswer, threePhaseReplayed};
 ghost use Rattle.phases_interface.specs.Interface.{threePhaseFreshNumber, threePhaseFreshPage, ThreePhaseCalled, threePhaseCheckNumber};
-ghost use Rattle.phases_interface.specs.Laws.{Laws as ThreePhaseLaws};
+ghost use Rattle.phases_interface.specs.Laws.{Laws as ThreePhaseLaws, ThreePhaseCallsCompared, ThreePhaseReplayNumbers};
 use phases::ThreePhaseCommand;
 
 // Writes the page of a fresh meter with these four thresholds into the first 586 bytes: 1 for a mode above
@@ -49,6 +49,7 @@ pub extern "C" fn three_phase_call(
 ) -> u32
     ensures { λ r. ⌜ ThreePhaseCalled (tableOf (now (table .entry))) (now (page .entry)) (threePhaseCommandOf kind n1 n2 n3 n4 n5 n6 0 0) r (now (page .exit)) (now (letter .exit)) ⌝ }
     ensures laws { λ _. ⌜ ThreePhaseLaws ⌝ }
+    ensures compared { λ _. ⌜ ThreePhaseCallsCompared ⌝ }
 {
     let command = ThreePhaseCommand {
         kind,
@@ -70,6 +71,7 @@ pub extern "C" fn three_phase_call(
 #[no_mangle]
 pub extern "C" fn three_phase_replay(records: &[u8], table: &[u8], page: &mut [u8]) -> u32
     ensures { λ r. ⌜ (r ≡ replayNumber (threePhaseReplayAnswer (now (records .entry)) (now (page .entry)))) × (now (page .exit) ≡ threePhaseReplayed (tableOf (now (table .entry))) (now (records .entry)) (now (page .entry))) ⌝ }
+    ensures numbers { λ _. ⌜ ThreePhaseReplayNumbers ⌝ }
 {
     phases_interface::replay_page(records, table, page)
 }

@@ -13,6 +13,8 @@ unfolding callsIn callOf decimal digits field lineBytes replayAnswer be numAt fr
 examples =
     record {
       settings = refl;
+      first-bytes = refl;
+      settings-signed = refl;
       calls = refl;
       no-kind = refl;
       zero = refl;

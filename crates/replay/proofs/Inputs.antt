@@ -38,13 +38,13 @@ use Rattle.replay.proofs.Ranges.{settings-range}
 use Rattle.replay.proofs.Runs.{settings, in-range, printed}
 
 -- a switch that is a position is one byte of the page
-page-switch : (a : Account) → a .switch ≤ 2 → switchIn (accountPage a) ≡ a .switch
+pub page-switch : (a : Account) → a .switch ≤ 2 → switchIn (accountPage a) ≡ a .switch
 unfolding accountPage flatMap be
 page-switch a h =
     let byte : switchIn (accountPage a) ≡ a .switch / 1 % 256 = refl in
     omega (arith, byte)
 
-sound-switch : (rows : List EventRow) (a : Account) → soundState rows (holding a) ≡ true → a .switch ≤ 2
+pub sound-switch : (rows : List EventRow) (a : Account) → soundState rows (holding a) ≡ true → a .switch ≤ 2
 unfolding soundState soundControl
 sound-switch rows a e =
     let control = control-sound (holding a .values) (and-left (soundValues (holding a .values)) _ e) in

@@ -2,13 +2,14 @@
 use mathlib.Core.Path.{_≡_}
 use mathlib.Core.List.{List, [], _∷_, _++_}
 use Prim.Native.Nat.{ℕ}
+use lib.IntN.{negsuc}
 use lib.ListN.{replicate}
 use Rattle.codec.specs.BigEndian.{be}
 use Rattle.calls.specs.declared.Command.{Command}
 use Rattle.calls.specs.Calls.{commandOf}
 use Rattle.history.specs.Examples.{exampleSettings, exampleCalls}
 use Rattle.replay.specs.declared.Replayed.the-variants.{Written, Empty, Bad, Short, Refused}
-use Rattle.replay.specs.Replay.{settingsIn, callsIn, replayAnswer}
+use Rattle.replay.specs.Replay.{firstIn, settingsIn, callsIn, replayAnswer}
 use Rattle.replay.specs.Listing.{decimal, lineBytes}
 
 -- a record of a kind and its first number; 'unused ones ignored'
@@ -35,6 +36,12 @@ only m = 0 ∷ be 4 m ++ (be 4 3000 ++ (be 4 2 ++ (be 4 3 ++ be 4 1000)))
 -- the records of the worked example, the digits, and the answers
 pub record Examples : Type 0 where
   pub settings : settingsIn firstRecord ≡ exampleSettings
+  -- '.. kind, five 32-bit big-endian numbers': the bytes of that record
+  pub first-bytes :
+      firstIn (0 ∷ 0 ∷ 0 ∷ 0 ∷ 5 ∷ 0 ∷ 0 ∷ 11 ∷ 184 ∷ 0 ∷ 0 ∷ 0 ∷ 2 ∷ 0 ∷ 0 ∷ 0 ∷ 3 ∷ 0 ∷ 0 ∷ 3 ∷ 232 ∷ []) ≡ firstRecord
+  -- 'a sample or threshold is two's complement': 4,294,967,291 is −5 (negsuc 4)
+  pub settings-signed :
+      settingsIn (commandOf 0 5 4294967291 2 3 1000) ≡ record { mode = 5; threshold = negsuc 4; over = 2; under = 3; clock = 1000 }
   pub calls : callsIn laterRecords ≡ exampleCalls
   -- document 02, A3: 'Refusal 13 now means not 1–17': such a record names no call
   pub no-kind : callsIn (recordOfKind 0 1 ∷ recordOfKind 18 1 ∷ recordOfKind 255 1 ∷ []) ≡ []

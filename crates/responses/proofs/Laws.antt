@@ -17,4 +17,8 @@ laws =
       denied = refl;
       unmatched = refl;
       acted = refl;
+      set-done = refl;
+      action-denied = refl;
+      action-unknown = refl;
+      action-unmatched = refl;
     }

@@ -32,3 +32,8 @@ pub record Laws : Type 0 where
   pub denied : responseBytes (SetResult 193 ReadWriteDenied) ≡ 197 ∷ 1 ∷ 193 ∷ 3 ∷ []
   pub unmatched : responseBytes (SetResult 193 TypeUnmatched) ≡ 197 ∷ 1 ∷ 193 ∷ 12 ∷ []
   pub acted : responseBytes (ActionResult 193 Success) ≡ 199 ∷ 1 ∷ 193 ∷ 0 ∷ 0 ∷ []
+  -- a SET that succeeds; 'any action answer carries no return data': an ACTION that is denied, of an unknown object, with a value of another type
+  pub set-done : responseBytes (SetResult 193 Success) ≡ 197 ∷ 1 ∷ 193 ∷ 0 ∷ []
+  pub action-denied : responseBytes (ActionResult 193 ReadWriteDenied) ≡ 199 ∷ 1 ∷ 193 ∷ 3 ∷ 0 ∷ []
+  pub action-unknown : responseBytes (ActionResult 193 ObjectUndefined) ≡ 199 ∷ 1 ∷ 193 ∷ 4 ∷ 0 ∷ []
+  pub action-unmatched : responseBytes (ActionResult 193 TypeUnmatched) ≡ 199 ∷ 1 ∷ 193 ∷ 12 ∷ 0 ∷ []

@@ -2,7 +2,7 @@
 use mathlib.Core.Path.{_≡_, refl, ap, ap₂, _∙_, sym}
 use native.Mathlib.Omega.{arith}
 use mathlib.Core.Bool.{Bool, true, false, cond, false≢true}
-use mathlib.Core.List.{List, [], _∷_, _++_}
+use mathlib.Core.List.{List, [], _∷_, _++_, nil≢cons, tail-eq-of-cons-eq}
 use Prim.Native.Nat.{ℕ, _≤_}
 use lib.Dec.{ltb}
 use lib.ListN.{length, take, replicate}
@@ -10,6 +10,7 @@ use Rattle.base.specs.Tests.{every}
 use Rattle.codec.specs.Lawful.{Bytes}
 use Rattle.events.specs.Table.{EventRow, lawful}
 use Rattle.calls.specs.declared.Call.{Call}
+use Rattle.calls.specs.declared.Letter.the-variants.{None}
 use Rattle.calls.specs.Calls.{AllInRange}
 use Rattle.requests.specs.declared.Request.{Request}
 use Rattle.requests.specs.declared.Parsed.{Parsed}
@@ -30,13 +31,15 @@ use Rattle.page.specs.Layout.{size, writeAnswer, written}
 use Rattle.page.specs.AccountPage.{pageLength}
 use Rattle.page.specs.Demand3.{Trace, lastRecord, traceAccount}
 use Rattle.page.proofs.Traces.{demand-3}
+use Rattle.server.specs.declared.Named.{Named as Named′}
+use Rattle.server.specs.declared.Named.the-variants.{One, NotWritable}
 use Rattle.server.specs.Naming.{namedIn}
 use Rattle.server.specs.Service.{refusedWith, parsedOn, service}
 use Rattle.server.specs.Laws.{namedOf}
 use Rattle.server.specs.History.{Input, call, request, InputInRange, AllInputsInRange, afterInput, afterInputs, parsedCalls, inputCalls}
 use Rattle.server.specs.History.{namedCalls, callsBehind, InputTrace, traceCalls, inputAccount, lastOf, ComparedTraces, callsWith, RequestsCounted}
 use Rattle.server.proofs.Laws.{unchanged}
-use Rattle.server.proofs.Kept.{sound-range, request-record, letter-named}
+use Rattle.server.proofs.Kept.{sound-range, request-record, letter-named, letter-unnamed}
 
 pub range-append : (xs ys : List Call) → AllInRange xs → AllInRange ys → AllInRange (xs ++ ys)
 range-append [] ys h k = k
@@ -229,6 +232,45 @@ module _ (rows : List EventRow) (table : every lawful rows ≡ true) (f : Fresh)
       go false true h e = letter-parsed c (requestIn s) e
       go false false h e = absurd (false≢true h)
 
+  unlettered-parsed : (p : Parsed) → parsedCalls (account rows f before) p ≡ [] → parsedOn rows (reached rows table f t before) p .letter ≡ None
+  unlettered-parsed NotWhole e = refl
+  unlettered-parsed (Ok r) e =
+      letter-unnamed rows table (reached rows table f t before) r (ap namedCalls (same-named rows table f t before range r) ∙ e)
+
+  unlettered-served : (s l : List ℕ) → inputCalls (account rows f before) (request s l) ≡ [] → service rows (reached rows table f t before) s l .letter ≡ None
+  unfolding service
+  unlettered-served s l e = go (ltb (length l) 32) (soundMeter rows m₀) e
+    where
+      m₀ : Meter
+      m₀ = reached rows table f t before
+
+      go : (b q : Bool) → cond b [] (parsedCalls (account rows f before) (requestIn s)) ≡ []
+          → cond b (refusedWith m₀ 21) (cond q (parsedOn rows m₀ (requestIn s)) (refusedWith m₀ 12)) .letter ≡ None
+      go true q e = refl
+      go false true e = unlettered-parsed (requestIn s) e
+      go false false e = refl
+
+-- an input names one call at most
+pub at-most-one : (a : Account) (s l : List ℕ) (c d : Call) (cs : List Call) → inputCalls a (request s l) ≡ c ∷ (d ∷ cs) → ⊥
+at-most-one a s l c d cs = go (ltb (length l) 32) (requestIn s)
+  where
+    named-one : (n : Named′) → namedCalls n ≡ c ∷ (d ∷ cs) → ⊥
+    named-one (One x) e = nil≢cons (tail-eq-of-cons-eq e)
+    named-one NotWritable e = nil≢cons e
+
+    go : (b : Bool) (p : Parsed) → cond b [] (parsedCalls a p) ≡ c ∷ (d ∷ cs) → ⊥
+    go true p e = nil≢cons e
+    go false NotWhole e = nil≢cons e
+    go false (Ok r) e = named-one (namedIn (a .threshold) (a .over) (a .under) r) e
+
+unlettered : (t : InputTrace) (s l : List ℕ) → Bytes s → inputCalls (inputAccount t) (request s l) ≡ [] → service (t .rows) (lastOf t) s l .letter ≡ None
+unlettered t s l b e =
+    let cs = traceCalls t in
+    let last : recordAfter (t .rows) (recordOf (freshState (t .settings))) cs ≡ lastOf t =
+    sym (rw (fresh-laws .accepted-meter (t .settings) (t .accepted)) (ends t .1)) in
+    ap (λ (m : Meter). service (t .rows) m s l .letter) (sym last)
+    ∙ unlettered-served (t .rows) (t .lawful-rows) (t .settings) (settings t) cs (ends t .0) s l e
+
 lettered : (t : InputTrace) (s l : List ℕ) (c : Call) → Bytes s → inputCalls (inputAccount t) (request s l) ≡ c ∷ []
     → service (t .rows) (lastOf t) s l .letter ≡ letter (t .rows) (t .settings) (traceCalls t) c
 lettered t s l c b e =
@@ -242,4 +284,4 @@ lettered t s l c b e =
     ∙ meter.laws .1 (t .rows) (t .lawful-rows) .letters (t .settings) cs c (settings t) (in-range .0, ends t .0)
 
 pub requests-counted : RequestsCounted
-requests-counted = record { compared = compared; uncounted = uncounted; lettered = lettered }
+requests-counted = record { compared = compared; uncounted = uncounted; lettered = lettered; unlettered = unlettered }

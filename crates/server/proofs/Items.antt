@@ -1,19 +1,23 @@
 -- Each row by its descriptor, and that there is no other.
 use mathlib.Core.Path.{_≡_, refl, sym}
 use mathlib.Core.Bool.{Bool, true, false, _&&_, _||_, false≢true}
-use mathlib.Core.List.{List}
+use mathlib.Core.List.{List, [], _∷_}
 use mathlib.Core.Option.{none}
 use lib.Dec.{eqb}
 use Rattle.base.proofs.Bools.{neither}
+use Rattle.codec.specs.{BigEndian.be, Format.numAt}
 use Rattle.events.specs.Table.{EventRow}
 use Rattle.requests.specs.declared.Descriptor.{Descriptor}
+use Rattle.requests.specs.Requests.{dataIn, descriptorIn, requestIn}
+use Rattle.responses.specs.Responses.{responseBytes}
 use Rattle.meter.specs.declared.Meter.{Meter}
 use Rattle.server.specs.Objects.{logicalName, items, itemAt}
 use Rattle.server.specs.Access.{getOn, accessOn, respondedOn}
+use Rattle.server.specs.Service.{serviceSound}
 use Rattle.server.specs.Items.{listed, ItemsOf, Items}
 
 pub of-record : (rows : List EventRow) (m : Meter) → ItemsOf rows m
-unfolding respondedOn accessOn getOn itemAt items
+unfolding respondedOn accessOn getOn itemAt items serviceSound requestIn dataIn descriptorIn numAt responseBytes be
 of-record rows m =
     record {
       get-output-state = λ i. refl;
@@ -38,6 +42,8 @@ of-record rows m =
       reconnect = λ v. refl;
       disconnect-alone = refl;
       reconnect-alone = refl;
+      output-state-bytes = λ e. rw e;
+      threshold-bytes = λ e. rw e;
     }
 
 -- ---- no row for any other descriptor
@@ -74,5 +80,10 @@ no-others false d e =
     (eqb (logicalName 0 0 97 98 10 255) (d .name)) (eqb 2 (d .id)) c1 in
     rw (h2, h3, h4, k4, k6, k7, e1, e2, e3)
 
+names-numbered :
+    logicalName 0 0 96 3 10 255 ∷ logicalName 0 0 17 0 0 255 ∷ logicalName 0 0 97 97 0 255 ∷ logicalName 0 0 97 98 0 255 ∷ logicalName 0 0 97 98 10 255 ∷ []
+    ≡ 1610812159 ∷ 285212927 ∷ 1633747199 ∷ 1633812735 ∷ 1633815295 ∷ []
+names-numbered = refl
+
 pub items-laws : Items
-items-laws = record { by-descriptor = of-record; no-others = no-others }
+items-laws = record { by-descriptor = of-record; no-others = no-others; names-numbered = names-numbered }

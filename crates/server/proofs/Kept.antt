@@ -1,7 +1,7 @@
 -- A request keeps a sound record sound: the call that it names has numbers of their types.
 use mathlib.Core.Path.{_≡_, refl, ap, _∙_, sym}
 use mathlib.Core.Bool.{Bool, true, false, cond}
-use mathlib.Core.List.{List, [], _∷_}
+use mathlib.Core.List.{List, [], _∷_, nil≢cons}
 use mathlib.Core.Option.{Option, none, some}
 use Prim.Native.Nat.{ℕ, _-_, _<_}
 use native.Mathlib.Omega.{arith}
@@ -186,6 +186,13 @@ module _ (rows : List EventRow) (table : every lawful rows ≡ true) (m : Meter)
       go : (n : Named) → namedCalls n ≡ c ∷ [] → namedLetter n ≡ applied rows m c .letter
       go (One d) e = let z : d ≡ c = cc in ap (λ (x : Call). applied rows m x .letter) z
       go NotWritable e = absurd (let z : _≡_ {A = ℕ} 0 1 = cc in omega arith)
+
+  pub letter-unnamed : (r : Request) → namedCalls (namedOf m r) ≡ [] → respondedOn rows m r .letter ≡ None
+  letter-unnamed r e = request-letter r ∙ go (namedOf m r) e
+    where
+      go : (n : Named) → namedCalls n ≡ [] → namedLetter n ≡ None
+      go (One d) e = absurd (nil≢cons (sym e))
+      go NotWritable e = refl
 
   pub kept-sound : (r : Request) → Sized (m .logs) → RequestInRange r → soundMeter rows m ≡ true → soundMeter rows (respondedOn rows m r .meter) ≡ true
   unfolding recordAfter

@@ -6,7 +6,7 @@ use Prim.Native.Nat.{ℕ, _<_}
 use lib.Bits.{bitAnd}
 use lib.Dec.{leb, ltb}
 use Rattle.events.specs.Table.{EventRow}
-use Rattle.limiter.specs.Limiter.{isDuration}
+use Rattle.base.specs.Tests.{within}
 use Rattle.requests.specs.declared.Data.{Data}
 use Rattle.requests.specs.declared.Data.the-variants.{DoubleLong, DoubleLongUnsigned, Enum}
 use Rattle.requests.specs.declared.Descriptor.{Descriptor}
@@ -43,9 +43,9 @@ pub record AfterSetOf (rows : List EventRow) (m : Meter) : Type 0 where
   pub threshold-denied : (v : ℕ) → soundMeter rows m ≡ true
       → setResult rows m (limiter 4) (DoubleLong v) ≡ cond (ltb v 2147483648) Success ReadWriteDenied
   pub over-denied : (v : ℕ) → soundMeter rows m ≡ true
-      → setResult rows m (limiter 6) (DoubleLongUnsigned v) ≡ cond (isDuration v) Success ReadWriteDenied
+      → setResult rows m (limiter 6) (DoubleLongUnsigned v) ≡ cond (within 1 86400 v) Success ReadWriteDenied
   pub under-denied : (v : ℕ) → soundMeter rows m ≡ true
-      → setResult rows m (limiter 7) (DoubleLongUnsigned v) ≡ cond (isDuration v) Success ReadWriteDenied
+      → setResult rows m (limiter 7) (DoubleLongUnsigned v) ≡ cond (within 1 86400 v) Success ReadWriteDenied
   pub errors-set : (v : ℕ) → soundMeter rows m ≡ true → setResult rows m errors (DoubleLongUnsigned v) ≡ Success
   pub alarms-set : (v : ℕ) → soundMeter rows m ≡ true → setResult rows m alarms (DoubleLongUnsigned v) ≡ Success
   pub filter-set : (v : ℕ) → soundMeter rows m ≡ true → setResult rows m alarmFilter (DoubleLongUnsigned v) ≡ Success

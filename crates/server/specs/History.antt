@@ -11,6 +11,7 @@ use Rattle.codec.specs.Lawful.{Bytes}
 use Rattle.events.specs.Table.{EventRow, lawful}
 use Rattle.calls.specs.declared.Call.{Call}
 use Rattle.calls.specs.declared.Answer.the-variants.{Accepted}
+use Rattle.calls.specs.declared.Letter.the-variants.{None}
 use Rattle.calls.specs.Calls.{InRange}
 use Rattle.requests.specs.declared.Parsed.{Parsed}
 use Rattle.requests.specs.declared.Parsed.the-variants.{Ok, NotWhole}
@@ -127,3 +128,5 @@ pub record RequestsCounted : Type 0 where
   -- document 02, A2: a request that names a call hands on the letter that the account gives to that call
   pub lettered : (t : InputTrace) (s l : List ℕ) (c : Call) → Bytes s → inputCalls (inputAccount t) (request s l) ≡ c ∷ []
       → service (t .rows) (lastOf t) s l .letter ≡ letter (t .rows) (t .settings) (traceCalls t) c
+  -- .. and one that names no call hands on none
+  pub unlettered : (t : InputTrace) (s l : List ℕ) → Bytes s → inputCalls (inputAccount t) (request s l) ≡ [] → service (t .rows) (lastOf t) s l .letter ≡ None

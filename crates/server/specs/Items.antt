@@ -1,10 +1,12 @@
 -- Each attribute and method by its descriptor: what a GET reads, and what a SET or an ACTION comes to (document 02, A9).
 use mathlib.Core.Path.{_≡_}
 use mathlib.Core.Bool.{Bool, true, false, _&&_, _||_, cond}
-use mathlib.Core.List.{List}
+use mathlib.Core.List.{List, [], _∷_}
 use mathlib.Core.Option.{none}
 use Prim.Native.Nat.{ℕ}
 use lib.Dec.{eqb}
+use lib.IntN.{pos}
+use lib.ListN.{replicate}
 use Rattle.base.specs.Bits.{inverse}
 use Rattle.events.specs.Table.{EventRow}
 use Rattle.calls.specs.declared.Call.the-variants as call
@@ -20,6 +22,7 @@ use Rattle.responses.specs.declared.Response.the-variants.{GetData}
 use Rattle.meter.specs.declared.Meter.{Meter}
 use Rattle.server.specs.Objects.{logicalName, items, itemAt}
 use Rattle.server.specs.Access.{unchangedWith, calledOn, accessOn, respondedOn}
+use Rattle.server.specs.Service.{serviceSound}
 
 -- a descriptor
 abbrev pub about : ℕ → ℕ → ℕ → Descriptor
@@ -90,8 +93,19 @@ pub record ItemsOf (rows : List EventRow) (m : Meter) : Type 0 where
   pub reconnect : (v : ℕ) → accessOn rows m true (disconnectControl 2) (Present (Integer v)) ≡ calledOn rows m call.RemoteReconnect
   pub disconnect-alone : accessOn rows m true (disconnectControl 1) Absent ≡ unchangedWith m TypeUnmatched
   pub reconnect-alone : accessOn rows m true (disconnectControl 2) Absent ≡ unchangedWith m TypeUnmatched
+  -- two GETs from bytes to bytes, the logical names among them: 'class 70 at 0-0:96.3.10.255 (attributes 2 boolean ..', where the switch is Connected, and
+  -- 'class 71 at 0-0:17.0.0.255 (attributes 4 as double-long ..', where the threshold is 3,000 watts
+  pub output-state-bytes : m .control .state ≡ 1
+      → serviceSound rows m (192 ∷ 1 ∷ 193 ∷ 0 ∷ 70 ∷ 0 ∷ 0 ∷ 96 ∷ 3 ∷ 10 ∷ 255 ∷ 2 ∷ 0 ∷ []) (replicate 32 0) .bytes ≡ 196 ∷ 1 ∷ 193 ∷ 0 ∷ 3 ∷ 1 ∷ []
+  pub threshold-bytes : m .limiter .threshold ≡ pos 3000
+      → serviceSound rows m (192 ∷ 1 ∷ 193 ∷ 0 ∷ 71 ∷ 0 ∷ 0 ∷ 17 ∷ 0 ∷ 0 ∷ 255 ∷ 4 ∷ 0 ∷ []) (replicate 32 0) .bytes
+      ≡ 196 ∷ 1 ∷ 193 ∷ 0 ∷ 5 ∷ 0 ∷ 0 ∷ 11 ∷ 184 ∷ []
 
 -- of every record, by any event rows; and 'object-undefined for anything else': there is no other row
 pub record Items : Type 0 where
   pub by-descriptor : (rows : List EventRow) (m : Meter) → ItemsOf rows m
   pub no-others : (method : Bool) (d : Descriptor) → listed method d ≡ false → itemAt items method d ≡ none
+  -- '0-0:96.3.10.255', '0-0:17.0.0.255', '0-0:97.97.0.255', '0-0:97.98.0.255' and '0-0:97.98.10.255': six bytes, the first one the highest
+  pub names-numbered :
+      logicalName 0 0 96 3 10 255 ∷ logicalName 0 0 17 0 0 255 ∷ logicalName 0 0 97 97 0 255 ∷ logicalName 0 0 97 98 0 255 ∷ logicalName 0 0 97 98 10 255 ∷ []
+      ≡ 1610812159 ∷ 285212927 ∷ 1633747199 ∷ 1633812735 ∷ 1633815295 ∷ []

@@ -1,3 +1,4 @@
 pub mod Lines
 pub mod Stored
 pub mod ThreePhaseStored
+pub mod EveryRecord

@@ -1,14 +1,17 @@
 -- Stores one after the other, in the three-phase meter's page: the pairs are the directory, and directory and areas the page.
 use Rattle.page.proofs.Common.{_≡_, _∙_, List, _++_, flatMap, ℕ, _+_, _≤_, add-assoc, arith, length, drop, length-append, sets, sets-eq, be, length-be}
 use Rattle.page.proofs.Common.{sets-cat}
-use Rattle.page.specs.Layout.{controlArea, registerArea, alarmsArea, logsArea, pairFormat}
+use Rattle.codec.specs.Format.{_⊗_}
+use Rattle.page.specs.Layout.{controlArea, clockArea, registerArea, alarmsArea, logsArea, pairFormat}
 use Rattle.phases_steps.specs.declared.MonitoredValue.{MonitoredValue}
 use Rattle.phases_steps.specs.declared.Limiters.{Limiters}
 use Rattle.phases_steps.specs.declared.ThreePhaseScalars.{ThreePhaseScalars}
 use Rattle.phases_meter.specs.declared.ThreePhaseMeter.{ThreePhaseMeter}
 use Rattle.phases_page.specs.Layout.{monitoredArea, limitersArea, threePhaseLayout, threePhaseDirectory, threePhaseSize, threePhasePageOf}
 use Rattle.phases_page.proofs.RoundTrip.{length-directory, page-length}
+use Rattle.writer.specs.Put.{PastKept}
 use Rattle.writer.specs.ThreePhase.{withThreePhaseScalars}
+use Rattle.writer.proofs.Lines.{store-past}
 
 pub three-phase-directory-stored : (o : List ℕ)
     → let put : List ℕ → ℕ → ℕ → ℕ → List ℕ = λ l at offset len. sets l at (pairFormat .enc (offset, len)) in
@@ -73,3 +76,13 @@ page-stored o m h =
 pub three-phase-page-left : (o first left : List ℕ) (m : ThreePhaseMeter) → threePhaseSize ≤ length o → first ≡ withThreePhaseScalars o (m .scalars)
     → left ≡ sets first 103 (logsArea .enc (m .logs)) → left ≡ threePhasePageOf m ++ drop threePhaseSize o
 three-phase-page-left o first left m h put-first put-left = put-left ∙ rw put-first (page-stored o m h)
+
+-- whatever the record, the bytes past the page stay
+pub three-phase-page-past : (o first left : List ℕ) (m : ThreePhaseScalars) → first ≡ withThreePhaseScalars o m → PastKept threePhaseSize first left
+    → PastKept threePhaseSize o left
+three-phase-page-past o first left m put-first past =
+    let s = m .status in
+    let before = threePhaseDirectory
+    ++ (controlArea ⊗ limitersArea ⊗ clockArea ⊗ alarmsArea ⊗ registerArea) .enc (s .control, (m .limiters, (s .clock, (s .alarms, s .errors)))) in
+    let n : length before ≡ 103 = simp (length-append, length-be, length-directory) in
+    past ∙ rw put-first (store-past threePhaseSize o 0 before (omega arith))

@@ -4,7 +4,7 @@ ghost use lib.ListN.{take};
 ghost use Rattle.tables.specs.Index.{tableIn};
 ghost use Rattle.meter.specs.State.{withLogs};
 ghost use Rattle.page.specs.Layout.{size, writeAnswer, written, acceptedOutcome, readOf};
-ghost use Rattle.writer.specs.Put.{WritesSound};
+ghost use Rattle.writer.specs.Put.{WritesSound, WritesEveryRecord};
 ghost use Rattle.page.specs.Demand3.{Demand3};
 ghost use Rattle.page.specs.Examples.{Examples};
 
@@ -46,6 +46,7 @@ pub fn write_sound<'a>(
     out: &mut [u8],
 ) -> Answer
     ensures { λ r. ⌜ WritesSound (withLogs scalars (now (counts .entry)) (now (clocks .entry)) (now (codes .entry))) (now (out .entry)) r (now (out .exit)) ⌝ }
+    ensures every_record { λ _. ⌜ WritesEveryRecord ⌝ }
 {
     if out.len() < PAGE_LEN {
         return Answer::Refused(8);

@@ -10,7 +10,7 @@ ghost use Rattle.phases_page.specs.Layout.{monitoredArea, limitersArea, threePh
 ghost use Rattle.phases_page.specs.Layout.{threePhaseWriteAnswer, threePhaseWritten, threePhaseAcceptedOutcome, threePhaseReadOf};
 ghost use Rattle.phases_page.specs.Demand3.{ThreePhaseDemand3};
 ghost use Rattle.phases_page.specs.Examples.{Examples};
-ghost use Rattle.writer.specs.ThreePhase.{withThreePhaseScalars, ThreePhaseWritesSound};
+ghost use Rattle.writer.specs.ThreePhase.{withThreePhaseScalars, ThreePhaseWritesSound, ThreePhaseWritesEveryRecord};
 use crate::areas;
 use calls::Answer;
 use page::ALARMS_LEN;
@@ -110,6 +110,7 @@ pub fn write_three_phase_sound<'a>(
     out: &mut [u8],
 ) -> Answer
     ensures { λ r. ⌜ ThreePhaseWritesSound (threePhaseWithLogs scalars (now (counts .entry)) (now (clocks .entry)) (now (codes .entry))) (now (out .entry)) r (now (out .exit)) ⌝ }
+    ensures every_record { λ _. ⌜ ThreePhaseWritesEveryRecord ⌝ }
 {
     if out.len() < THREE_PHASE_PAGE_LEN {
         return Answer::Refused(8);

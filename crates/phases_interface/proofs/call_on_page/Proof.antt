@@ -19,7 +19,7 @@ use Rattle.phases_meter.specs.Machine.{threePhaseApplied}
 use Rattle.phases_meter.specs.Parts.{threePhaseOutcomeOf}
 use Rattle.phases_meter.proofs.Laws.{laws-of}
 use Rattle.phases_interface.proofs.Kept.{kept-refused, kept-written, call-no-kind, call-refused, call-kept, named-range}
-use Rattle.phases_interface.proofs.Laws.{read-record, laws}
+use Rattle.phases_interface.proofs.Laws.{read-record, laws, compared}
 use Rattle.phases_interface.proofs.call_on_page.Statement.{statement}
 use Rattle.phases_interface.proofs.call_on_page.Tie as tie
 
@@ -27,7 +27,7 @@ use Rattle.phases_interface.proofs.call_on_page.Tie as tie
 abbrev loading : tie.After-read-three-phase-page → tie.After-index-of
 loading c = c .before .before .before
 
-abbrev naming : tie.After-read-three-phase-page → tie.After-parsed
+abbrev naming : tie.After-read-three-phase-page → tie.After-call
 naming c = loading c .before .before
 
 abbrev taken : tie.After-apply-sound → tie.After-enum-told2
@@ -48,7 +48,7 @@ abbrev given : tie.After-apply-sound → ThreePhaseMeter
 given c = reading c .read-three-phase-page .result .meter
 
 abbrev call : tie.After-apply-sound → ThreePhaseCall
-call c = naming (reading c) .parsed .given .0 .0
+call c = naming (reading c) .call .given .0 .0
 
 abbrev left : tie.After-apply-sound → ThreePhaseOutcome
 left c =
@@ -66,7 +66,7 @@ in-range : (c : tie.After-apply-sound) → ThreePhaseInRange (call c)
 in-range c =
     let p = naming (reading c) in
     let g = p .before .before .before .before .before .good .1 .1 .0 .1 in
-    named-range _ _ _ (p .before .before .read-command .ensures .0) (p .parsed .given .1) (search (needs, g)) (search (needs, g)) (search (needs, g))
+    named-range _ _ _ (p .before .before .read-command .ensures .0) (p .call .given .1) (search (needs, g)) (search (needs, g)) (search (needs, g))
     (search (needs, g)) (search (needs, g)) (search (needs, g))
 
 applies : (c : tie.After-apply-sound) → left c ≡ threePhaseApplied (rows (reading c)) (given c) (call c)
@@ -81,16 +81,16 @@ left-sound c =
     ∙ laws-of (rows (reading c)) (table-lawful (table (reading c))) .kept-sound (given c) (call c) sized (in-range c) sound
 
 returns : tie.Need-returns
-returns c = (call-no-kind _ _ _ _ (c .before .before .read-command .ensures .0) _ (c .enum-told .given .1) refl, laws)
+returns c = (call-no-kind _ _ _ _ (c .before .before .read-command .ensures .0) _ (c .enum-told .given .1) refl, (laws, compared))
 
 returns-2 : tie.Need-returns-2
 returns-2 c =
     let r = c .before .before .before in
     let p = naming r in (
       rw (loading r .index-of .ensures) at
-          (call-refused (rows r) _ _ _ (p .before .before .read-command .ensures .0) _ (p .parsed .given .1) _ (r .read-three-phase-page .ensures .0) _ _
+          (call-refused (rows r) _ _ _ (p .before .before .read-command .ensures .0) _ (p .call .given .1) _ (r .read-three-phase-page .ensures .0) _ _
           (c .before .answer .given .1) refl),
-      laws,
+      (laws, compared),
     )
 
 returns-3 : tie.Need-returns-3
@@ -100,9 +100,9 @@ returns-3 c =
     let r = reading a in
     let p = naming r in (
       rw (loading r .index-of .ensures) at
-          (call-kept (rows r) _ _ _ (p .before .before .read-command .ensures .0) _ (p .parsed .given .1) _ (r .read-three-phase-page .ensures .0) _ _ _ _
+          (call-kept (rows r) _ _ _ (p .before .before .read-command .ensures .0) _ (p .call .given .1) _ (r .read-three-phase-page .ensures .0) _ _ _ _
           (taken a .enum-told2 .given .1) (applies a) (kept-refused _ (left a) _ _ (c .before .refusal .given .1)) (byte .byte .ensures)),
-      laws,
+      (laws, compared),
     )
 
 returns-4 : tie.Need-returns-4
@@ -114,11 +114,11 @@ returns-4 c =
     let r = reading a in
     let p = naming r in (
       rw (loading r .index-of .ensures) at
-          (call-kept (rows r) _ _ _ (p .before .before .read-command .ensures .0) _ (p .parsed .given .1) _ (r .read-three-phase-page .ensures .0) _ _ _ _
+          (call-kept (rows r) _ _ _ (p .before .before .read-command .ensures .0) _ (p .call .given .1) _ (r .read-three-phase-page .ensures .0) _ _ _ _
           (taken a .enum-told2 .given .1) (applies a)
-          (kept-written _ (left a) _ _ _ _ (told .enum-told3 .given .1) (c .number .ensures) (wrote .write-three-phase-sound .ensures _ (left-sound a)))
+          (kept-written _ (left a) _ _ _ _ (told .enum-told3 .given .1) (c .number .ensures) (wrote .write-three-phase-sound .ensures .0 .sound _ (left-sound a)))
           (byte .byte .ensures)),
-      laws,
+      (laws, compared),
     )
 
 pub call-on-page-spec : {M : Type 1} → statement M

@@ -24,7 +24,7 @@ use Rattle.pillar.proofs.call_on_page.Statement.{statement}
 use Rattle.pillar.proofs.call_on_page.Tie as tie
 
 -- ---- earlier places: the command's reading, which named a call; the record taken apart; the page's reading, which was accepted
-abbrev reading : tie.After-read-page → tie.After-parsed
+abbrev reading : tie.After-read-page → tie.After-call
 reading c = c .before .before .before
 
 abbrev parts : tie.After-apply-sound → tie.After-scalars
@@ -48,7 +48,7 @@ abbrev given : tie.After-apply-sound → Meter
 given c = read c .read-page .result .meter
 
 abbrev call : tie.After-apply-sound → Call
-call c = reading (read c) .parsed .given .0 .0
+call c = reading (read c) .call .given .0 .0
 
 abbrev left : tie.After-apply-sound → Outcome
 left c =
@@ -64,7 +64,7 @@ in-range : (c : tie.After-apply-sound) → InRange (call c)
 in-range c =
     let p = reading (read c) in
     let g = p .before .before .before .before .good .1 .1 .0 in
-    named-range _ _ _ (p .before .before .read-kind .ensures .0) (p .parsed .given .1) (search (needs, g)) (search (needs, g)) (search (needs, g))
+    named-range _ _ _ (p .before .before .read-kind .ensures .0) (p .call .given .1) (search (needs, g)) (search (needs, g)) (search (needs, g))
     (search (needs, g)) (search (needs, g))
 
 applies : (c : tie.After-apply-sound) → left c ≡ applied (rows c) (given c) (call c)
@@ -84,7 +84,7 @@ returns-2 : tie.Need-returns-2
 returns-2 c =
     let read = c .before .before .before in
     let parsed = reading read in
-    call-refused _ _ _ _ (parsed .before .before .read-kind .ensures .0) _ (parsed .parsed .given .1) _ (read .read-page .ensures .0) _ _
+    call-refused _ _ _ _ (parsed .before .before .read-kind .ensures .0) _ (parsed .call .given .1) _ (read .read-page .ensures .0) _ _
     (c .before .answer .given .1) refl
 
 returns-3 : tie.Need-returns-3
@@ -92,7 +92,7 @@ returns-3 c =
     let byte = c .before .before .before in
     let a = byte .before in
     let parsed = reading (read a) in
-    call-kept _ _ _ _ (parsed .before .before .read-kind .ensures .0) _ (parsed .parsed .given .1) _ (read a .read-page .ensures .0) _ _ _ _
+    call-kept _ _ _ _ (parsed .before .before .read-kind .ensures .0) _ (parsed .call .given .1) _ (read a .read-page .ensures .0) _ _ _ _
     (taken a .enum-told2 .given .1) (applies a) (kept-refused _ (left a) _ _ (c .before .refusal .given .1)) (byte .byte .ensures)
 
 returns-4 : tie.Need-returns-4
@@ -102,9 +102,9 @@ returns-4 c =
     let byte = told .before .before in
     let a = byte .before in
     let parsed = reading (read a) in
-    call-kept _ _ _ _ (parsed .before .before .read-kind .ensures .0) _ (parsed .parsed .given .1) _ (read a .read-page .ensures .0) _ _ _ _
+    call-kept _ _ _ _ (parsed .before .before .read-kind .ensures .0) _ (parsed .call .given .1) _ (read a .read-page .ensures .0) _ _ _ _
     (taken a .enum-told2 .given .1) (applies a)
-    (kept-written _ (left a) _ _ _ _ (told .enum-told3 .given .1) (c .number .ensures) (wrote .write-sound .ensures _ (left-sound a)))
+    (kept-written _ (left a) _ _ _ _ (told .enum-told3 .given .1) (c .number .ensures) (wrote .write-sound .ensures .0 .sound _ (left-sound a)))
     (byte .byte .ensures)
 
 pub call-on-page-spec : {M : Type 1} → statement M

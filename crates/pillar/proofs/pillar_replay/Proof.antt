@@ -2,6 +2,7 @@
 use mathlib.Core.Path.{_∙_, ap}
 use borrow.Author.Needs.{needs}
 use Rattle.replay.specs.Numbers.{replayNumber}
+use Rattle.replay.proofs.Numbers.{replay-numbers}
 use Rattle.pillar.proofs.pillar_replay.Statement.{statement}
 use Rattle.pillar.proofs.pillar_replay.Tie as tie
 
@@ -9,7 +10,7 @@ returns : tie.Need-returns
 returns c =
     let replay = c .before .before .before in
     let made = rw (replay .before .before .before .index-of .ensures) at (replay .replay .ensures .0) in
-    (c .number .ensures ∙ ap replayNumber (made .0), made .1)
+    ((c .number .ensures ∙ ap replayNumber (made .0), made .1), replay-numbers)
 
 pub pillar-replay-spec : {M : Type 1} → statement M
 pillar-replay-spec =

@@ -69,7 +69,7 @@ returns-2 c =
     let if1 = wrote .before .before .before .before .before .before in
     let t = if1 .before in
     let same = scalars-tested t .before .scalars .ensures in
-    writer-promises _ _ _ _ _ (typed (start t)) ((rw same at (wrote .write-sound .ensures)) _ (sym (tested t) ∙ not-false _ (if1 .if1 .left)))
+    writer-promises _ _ _ _ _ (typed (start t)) ((rw same at (wrote .write-sound .ensures .0)) .sound _ (sym (tested t) ∙ not-false _ (if1 .if1 .left)))
 
 pub write-page-spec : {M : Type 1} → statement M
 write-page-spec =

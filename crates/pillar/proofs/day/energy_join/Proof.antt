@@ -1,4 +1,5 @@
 use borrow.Author.Needs.{needs}
+use Rattle.pillar.proofs.Places.{day-laws}
 use Rattle.pillar.proofs.day.energy_join.Statement.{statement}
 use Rattle.pillar.proofs.day.energy_join.Tie as tie
 
@@ -7,4 +8,4 @@ energy-join-spec =
     tie.close (tie.spec (λ c κs. search needs) (λ c κs. search needs) (λ c κs. search needs) (λ c κs. search needs)
     (λ c.
     let j = c .before .before in
-    rw (← j .before .day-in2 .ensures, ← j .before .before .day-in .ensures, ← j .join-days .ensures .0) (c .store .ensures)))
+    (rw (← j .before .day-in2 .ensures, ← j .before .before .day-in .ensures, ← j .join-days .ensures .0) (c .store .ensures), day-laws)))

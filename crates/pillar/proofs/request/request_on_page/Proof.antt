@@ -73,7 +73,7 @@ returns-5 c =
     let s = told .before .before .before .before in
     carried _ _ _ _ (read s .before .before .if1 .left) _ (read s .read-page .ensures .0) (taken s) _ _ (s .serve-sound .ensures)
     (told .enum-told2 .given .1) _ (byte .byte .ensures) (not-false _ (left .if2 .left)) _ _ _ (c .number .ensures)
-    ((rw (parts .scalars .ensures) at (wrote .write-sound .ensures)) _ (left-sound s))
+    ((rw (parts .scalars .ensures) at (wrote .write-sound .ensures .0)) .sound _ (left-sound s))
 
 pub request-on-page-spec : {M : Type 1} → statement M
 request-on-page-spec =

@@ -66,7 +66,7 @@ returns-2 c =
     let wrote = c .before .before in
     let if1 = wrote .before .before .before .before .before .before in
     let t = if1 .before in
-    writer-promises _ _ _ _ _ (typed (start t)) (wrote .write-three-phase-sound .ensures _ (sym (tested t) ∙ not-false _ (if1 .if1 .left)))
+    writer-promises _ _ _ _ _ (typed (start t)) (wrote .write-three-phase-sound .ensures .0 .sound _ (sym (tested t) ∙ not-false _ (if1 .if1 .left)))
 
 pub write-three-phase-page-spec : {M : Type 1} → statement M
 write-three-phase-page-spec =
