@@ -1,6 +1,8 @@
 // The bench program: records on standard input, their listing on standard output. A program of this
 // language has no exit status: where the listing is not that of the whole input, or is not written,
 // it says so on standard error.
+#![tactic(auto)]
+
 use libc::STDERR_FILENO;
 
 fn main() {

@@ -1,5 +1,7 @@
 // One column and its berths: how the column's limit is shared out among them (document 02, A10). All
 // powers are in watts.
+#![tactic(auto)]
+
 ghost use Rattle.std.specs.Prelude.{◌≡◌};
 ghost use Rattle.berths.specs.Allotments.{refusal, filled};
 ghost use Rattle.berths.specs.Counting.{answered};
@@ -12,7 +14,7 @@ mod counting;
 mod shares;
 
 #[repr(C)]
-#[derive(Drop)]
+#[derive(Clone, Copy)]
 pub struct Berth {
     // What the berth gets whatever its neighbours draw, if it demands as much.
     pub guarantee: i32,
@@ -25,7 +27,7 @@ pub struct Berth {
 }
 
 // A column and those of its berths that have been counted.
-#[derive(Drop)]
+#[derive(Clone, Copy)]
 pub(crate) struct Column {
     // The limit, a guarantee or a cap is negative, or a guarantee is above its cap: refusal 23.
     pub faulty: bool,
@@ -38,7 +40,7 @@ pub(crate) struct Column {
 }
 
 // What comes of a column when all its berths have been counted.
-#[derive(Drop)]
+#[derive(Clone, Copy)]
 pub(crate) struct Judged {
     // The number of the refusal, or 0.
     pub number: u8,
@@ -49,7 +51,7 @@ pub(crate) struct Judged {
 }
 
 // What a berth gets, and what is left for those behind it.
-#[derive(Drop)]
+#[derive(Clone, Copy)]
 pub(crate) struct Share {
     pub allotment: i32,
     pub left: u32,

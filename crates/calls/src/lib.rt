@@ -1,11 +1,13 @@
 // The calls that a meter takes, its answers with the letter of a move, and the reading of a command: a
 // kind and five numbers.
+#![tactic(auto)]
+
 ghost use Rattle.std.specs.Prelude.{◌≡◌};
 ghost use Rattle.calls.specs.Calls.{answer_number, letter_byte, signed_of, call_of};
 ghost use Rattle.calls.specs.Laws.{Laws};
 
 // A call with its numbers, which stay 32 bits wide until they are judged.
-#[derive(Drop)]
+#[derive(Clone, Copy)]
 pub enum Call {
     // Power in watts; export is negative.
     Sample(i32),
@@ -34,7 +36,7 @@ pub enum Call {
     SetProfile(u32, i32, u32, u32),
 }
 
-#[derive(Drop)]
+#[derive(Clone, Copy)]
 pub enum Answer {
     Accepted,
     // The number of the refusal.
@@ -54,7 +56,7 @@ impl Answer {
 }
 
 // The move of the switch that a call made, by its letter in the switch table.
-#[derive(Drop)]
+#[derive(Clone, Copy)]
 pub enum Letter {
     A,
     B,
@@ -88,7 +90,7 @@ impl Letter {
 }
 
 // A kind and five numbers.
-#[derive(Drop)]
+#[derive(Clone, Copy)]
 pub struct Command {
     pub kind: u32,
     pub n1: u32,
@@ -99,7 +101,7 @@ pub struct Command {
 }
 
 // What a command names.
-#[derive(Drop)]
+#[derive(Clone, Copy)]
 pub enum Parsed {
     Ok(Call),
     NoKind,

@@ -3,6 +3,8 @@
 // A `get` is total: a byte past the end reads as zero. A store has nowhere to put such a byte: it
 // would leave only a part of the number behind. So each `put` requires that its bytes lie inside
 // the slice, and a caller that stores many values checks the length once.
+#![tactic(auto)]
+
 ghost use Rattle.std.specs.Prelude.{◌≡◌, ◌+◌, ◌*◌, ◌≤◌, length};
 ghost use Rattle.std.proofs.lemmas.List.Edits.{sets};
 ghost use Rattle.codec.specs.BigEndian.{be};

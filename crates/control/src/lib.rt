@@ -1,5 +1,7 @@
 // The load switch: control mode, control state and openings (DLMS disconnect control, class 70).
 // States: 0 disconnected, 1 connected, 2 ready for reconnection.
+#![tactic(auto)]
+
 ghost use Rattle.std.specs.Prelude.{◌≡◌, cond, eqb};
 ghost use Rattle.control.specs.Table.{switch_table};
 ghost use Rattle.control.specs.Control.{decision, mode_decision, moved_to, in_mode, sound_control};
@@ -8,7 +10,7 @@ ghost use Rattle.control.specs.ByMode.{ByMode};
 
 use calls::Letter;
 
-#[derive(Drop)]
+#[derive(Clone, Copy)]
 pub enum Request {
     RemoteDisconnect,
     RemoteReconnect,
@@ -18,7 +20,7 @@ pub enum Request {
     LocalReconnect,
 }
 
-#[derive(Drop)]
+#[derive(Clone, Copy)]
 pub enum Decision {
     // The next state, the code of the line in the disconnect log, whether supply opens, and the move's
     // letter.
@@ -34,7 +36,7 @@ pub enum Decision {
     NotListed,
 }
 
-#[derive(Drop)]
+#[derive(Clone, Copy)]
 pub struct Control {
     pub mode: u8,
     pub state: u8,

@@ -1,6 +1,8 @@
 // The emergency profile of the limiter and its group ids (DLMS class 71), as the record and the page
 // hold them. A profile is set, waits for its activation, governs its samples and is gone; the group
 // ids stay.
+#![tactic(auto)]
+
 ghost use Rattle.std.specs.Prelude.{◌≡◌, take};
 ghost use Rattle.emergency.specs.Emergency.{is_duration, sound_emergency, groups_in, listed_of, with_groups, with_profile, without_profile};
 ghost use Rattle.emergency.specs.Emergency.{started, ended, in_force};
@@ -10,7 +12,7 @@ ghost use Rattle.emergency.specs.NearMisses.{NearMisses};
 mod groups;
 mod soundness;
 
-#[derive(Drop)]
+#[derive(Clone, Copy)]
 pub struct Emergency {
     // The profile's id: one of the group ids when it was set.
     pub id: u16,
@@ -31,7 +33,7 @@ pub struct Emergency {
 }
 
 // What the group ids say of an id.
-#[derive(Drop)]
+#[derive(Clone, Copy)]
 pub enum Lookup {
     // It is one of them.
     Listed(u16),

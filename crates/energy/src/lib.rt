@@ -1,5 +1,7 @@
 // The energy of a day, exactly (document 02, A11): import and export of samples, one power a second,
 // and energies joined.
+#![tactic(auto)]
+
 ghost use Rattle.std.specs.Prelude.{◌≡◌, ◌+◌};
 ghost use Rattle.base.specs.Numbers.{positive_part, negative_part};
 ghost use Rattle.energy.specs.Energy.{energy_of};
@@ -11,21 +13,21 @@ mod joining;
 pub use joining::{join, join_days};
 
 // What is measured or joined here has a remainder below 3,600; what is handed in may have any.
-#[derive(Drop)]
+#[derive(Clone, Copy)]
 pub struct Energy {
     pub watthours: u64,
     pub wattseconds: u64,
 }
 
 // The energy of a day, of several, or of several berths.
-#[derive(Drop)]
+#[derive(Clone, Copy)]
 pub struct Day {
     pub import: Energy,
     pub export: Energy,
 }
 
 // What comes of measuring a day, or of joining days.
-#[derive(Drop)]
+#[derive(Clone, Copy)]
 pub enum Measured {
     Accepted(Day),
     // The number of the refusal.
@@ -33,7 +35,7 @@ pub enum Measured {
 }
 
 // What comes of joining two energies.
-#[derive(Drop)]
+#[derive(Clone, Copy)]
 pub enum Joined {
     Accepted(Energy),
     // The number of the refusal.

@@ -1,10 +1,12 @@
 // The limiter (DLMS class 71): samples above the threshold, counted.
+#![tactic(auto)]
+
 ghost use Rattle.std.specs.Prelude.{◌≡◌};
 ghost use Rattle.limiter.specs.Limiter.{is_over, is_threshold, is_duration, awaited, counts, with_run, watched, sampled_power, with_settings, restarted, armed, sound_limiter};
 ghost use Rattle.limiter.specs.Laws.{Laws, ArmedLaws};
 ghost use Rattle.limiter.specs.NearMisses.{NearMisses};
 
-#[derive(Drop)]
+#[derive(Clone, Copy)]
 pub struct Limiter {
     pub threshold: i32,
     pub over: u32,
@@ -14,7 +16,7 @@ pub struct Limiter {
 }
 
 // The limiter after a sample, and whether the sample changed Exceeded.
-#[derive(Drop)]
+#[derive(Clone, Copy)]
 pub struct Watched {
     pub limiter: Limiter,
     pub fired: bool,

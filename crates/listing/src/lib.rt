@@ -4,6 +4,8 @@
 // Proved are the texts, each by the bytes it is made of, and that together they are the listing of the
 // whole input. No contract of reading or writing says which bytes a stream has: it is left to
 // comparison that the blocks are the input's bytes, and that each text is written, once and in order.
+#![tactic(auto)]
+
 ghost use Rattle.std.specs.Prelude.{◌+◌, ◌≤◌};
 ghost use Rattle.listing.specs.Laws.{BlockRead, BlocksRead, InputRead, Laws};
 ghost use Rattle.listing.specs.Examples.{Examples};
@@ -27,7 +29,7 @@ const TEXT_LEN: usize = BLOCK_RECORDS * LINE_LEN + 6;
 const LAST_POSITION: u64 = u64::MAX - 195;
 
 // How far a listing is: the meter, the position of the next record, and whether a block is to be read.
-#[derive(Drop)]
+#[derive(Clone, Copy)]
 pub struct Progress {
     pub meter: Meter,
     pub position: u64,
@@ -36,7 +38,7 @@ pub struct Progress {
 
 // How far a listing came, whether the input could be read so far, and whether all of the text was
 // written.
-#[derive(Drop)]
+#[derive(Clone, Copy)]
 pub struct ListingEnd {
     pub progress: Progress,
     pub read: bool,

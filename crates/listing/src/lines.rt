@@ -14,14 +14,14 @@ use replay::{ListingLine, RECORD_LEN};
 pub(crate) const LINE_LEN: usize = 40;
 
 // The meter after some records, and the length of the text that their lines are.
-#[derive(Drop)]
+#[derive(Clone, Copy)]
 struct PutLines {
     meter: Meter,
     len: usize,
 }
 
 // The length of the text of a part of the input, and how far the listing is after it.
-#[derive(Drop)]
+#[derive(Clone, Copy)]
 pub(crate) struct PutText {
     pub len: usize,
     pub progress: Progress,

@@ -3,6 +3,8 @@
 // round can be left out. `measure_sound` and `measure_write` take a refused page for that of the meter
 // which the reader then hands back; `measure_calls` answers the refusal. The event table is lent as the
 // core has it, so that loading is not part of what is timed.
+#![tactic(auto)]
+
 ghost use Rattle.std.specs.Prelude.{◌≡◌, cond};
 ghost use Rattle.tables.specs.Bytes.{table_of};
 ghost use Rattle.tables.specs.Index.{table_in};

@@ -1,5 +1,7 @@
 // The calls that the three-phase meter takes (document 02, A13), and the reading of a command: a kind
 // and eight numbers, of which a call uses the first six at most, and a fresh meter all.
+#![tactic(auto)]
+
 ghost use Rattle.std.specs.Prelude.{◌≡◌};
 ghost use Rattle.phases.specs.Calls.{three_phase_call_of};
 ghost use Rattle.phases.specs.ThreePhase.{exact_sum};
@@ -7,7 +9,7 @@ ghost use Rattle.phases.specs.Laws.{Laws};
 ghost use Rattle.phases.specs.Examples.{Examples};
 
 // A call with its numbers, which stay 32 bits wide until they are judged.
-#[derive(Drop)]
+#[derive(Clone, Copy)]
 pub enum ThreePhaseCall {
     // The power of each phase in watts; export is negative.
     Sample(i32, i32, i32),
@@ -33,7 +35,7 @@ pub enum ThreePhaseCall {
 }
 
 // A kind and eight numbers.
-#[derive(Drop)]
+#[derive(Clone, Copy)]
 pub struct ThreePhaseCommand {
     pub kind: u32,
     pub n1: u32,
@@ -47,7 +49,7 @@ pub struct ThreePhaseCommand {
 }
 
 // What a command names.
-#[derive(Drop)]
+#[derive(Clone, Copy)]
 pub enum ThreePhaseParsed {
     Ok(ThreePhaseCall),
     NoKind,

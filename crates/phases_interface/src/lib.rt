@@ -3,6 +3,8 @@
 // each answers 0 or the number of a refusal, and a refusal leaves every byte of the page. An event table
 // goes as bytes with each call on a page: those of a good table, or any others, as none at all, for the
 // built-in one.
+#![tactic(auto)]
+
 ghost use Rattle.std.specs.Prelude.{◌≡◌};
 ghost use Rattle.events.specs.Table.{built_in};
 ghost use Rattle.tables.specs.Bytes.{table_of};

@@ -1,4 +1,6 @@
 // The three-phase meter's record, and the calls on it.
+#![tactic(auto)]
+
 ghost use Rattle.std.specs.Prelude.{◌≡◌};
 ghost use Rattle.tables.specs.Index.{table_in};
 ghost use Rattle.phases_meter.specs.State.{three_phase_with_logs, sound_three_phase_meter};
@@ -15,14 +17,14 @@ pub use parts::{ThreePhaseAnswered, apply_sound, command_sound};
 use phases::{ThreePhaseCall, ThreePhaseCommand, ThreePhaseParsed};
 use phases_steps::ThreePhaseScalars;
 
-#[derive(Drop)]
+#[derive(Clone, Copy)]
 pub struct ThreePhaseMeter {
     pub scalars: ThreePhaseScalars,
     pub logs: Logs,
 }
 
 // What a call hands back: the record, its answer, and the letter of the move that it made.
-#[derive(Drop)]
+#[derive(Clone, Copy)]
 pub struct ThreePhaseOutcome {
     pub meter: ThreePhaseMeter,
     pub answer: Answer,

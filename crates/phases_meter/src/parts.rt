@@ -9,7 +9,7 @@ use phases::{ThreePhaseCall, ThreePhaseCommand, ThreePhaseParsed};
 use phases_steps::ThreePhaseScalars;
 
 // What a call hands back of a record in parts: the scalars, its answer, and the letter of its move.
-#[derive(Drop)]
+#[derive(Clone, Copy)]
 pub struct ThreePhaseAnswered {
     pub scalars: ThreePhaseScalars,
     pub answer: Answer,

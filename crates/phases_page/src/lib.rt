@@ -2,6 +2,8 @@
 // eight pairs of offset and length comes first, then the areas that it names. Those that the one-phase
 // meter has too are as long as in its page. Here are the layout, what writer and reader answer and
 // leave, and why a page holds its account.
+#![tactic(auto)]
+
 use page::{ALARMS_LEN, CLOCK_LEN, CONTROL_LEN, LOG_LEN, REGISTER_LEN};
 
 // The length of a monitored value: threshold, Exceeded and Run.

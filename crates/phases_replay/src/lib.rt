@@ -1,4 +1,6 @@
 // A whole input of the three-phase meter at once, from its bytes to the page.
+#![tactic(auto)]
+
 ghost use Rattle.std.specs.Prelude.{◌≡◌};
 ghost use Rattle.tables.specs.Index.{table_in};
 ghost use Rattle.phases_replay.specs.Replay.{three_phase_replay_answer, three_phase_replayed};

@@ -1,6 +1,8 @@
 // What a call makes of the three-phase meter's record without its logs: the next scalars, the answer, the
 // letter of its move, and what it does to the logs, which is only named here. A call that touches no
 // limiter is the status's, which every meter has.
+#![tactic(auto)]
+
 ghost use Rattle.std.specs.Prelude.{◌≡◌};
 ghost use Rattle.tables.specs.Index.{table_in};
 ghost use Rattle.phases_steps.specs.Scalars.{sound_three_phase_scalars};
@@ -17,7 +19,7 @@ use phases::ThreePhaseCall;
 use status::{Status, StatusStep};
 
 // A monitored value: the power of a phase, or the sum of the three.
-#[derive(Drop)]
+#[derive(Clone, Copy)]
 pub struct MonitoredValue {
     pub threshold: i32,
     pub exceeded: bool,
@@ -25,7 +27,7 @@ pub struct MonitoredValue {
 }
 
 // The limiter: over and under duration for all, and each monitored value.
-#[derive(Drop)]
+#[derive(Clone, Copy)]
 pub struct Limiters {
     pub over: u32,
     pub under: u32,
@@ -36,7 +38,7 @@ pub struct Limiters {
 }
 
 // The record without its logs.
-#[derive(Drop)]
+#[derive(Clone, Copy)]
 pub struct ThreePhaseScalars {
     pub status: Status,
     pub limiters: Limiters,
@@ -48,7 +50,7 @@ const LINES: usize = 5;
 
 // A call's step: the log that it clears (0: none), the log that its lines go to (0 where a call never
 // has any), and the lines, the first `count` of each array.
-#[derive(Drop)]
+#[derive(Clone, Copy)]
 pub struct ThreePhaseStep {
     pub scalars: ThreePhaseScalars,
     pub answer: Answer,

@@ -5,6 +5,8 @@
 // `include/pillar.h` declares them.
 // The three-phase meter has functions of its own, on a page of its own.
 // Apart from the meters stand the functions of a column, of the energy of a day and of a bill.
+#![tactic(auto)]
+
 ghost use Rattle.std.specs.Prelude.{◌≡◌};
 ghost use Rattle.events.specs.Table.{built_in};
 ghost use Rattle.tables.specs.Bytes.{table_refusal, table_of};

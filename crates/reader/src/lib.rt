@@ -1,4 +1,6 @@
 // The page's reader.
+#![tactic(auto)]
+
 ghost use Rattle.std.specs.Prelude.{◌≡◌};
 ghost use Rattle.tables.specs.Index.{table_in};
 ghost use Rattle.page.specs.Layout.{read_of};

@@ -1,18 +1,20 @@
 // The alarm and the error register: 32 bits each, with the filter that hides bits from being set.
+#![tactic(auto)]
+
 ghost use Rattle.std.specs.Prelude.{◌≡◌};
 ghost use Rattle.registers.specs.Register.{raised, cleared, with_filter};
 ghost use Rattle.registers.specs.Laws.{Laws};
 
 mod counted;
 
-#[derive(Drop)]
+#[derive(Clone, Copy)]
 pub struct Register {
     pub bits: u32,
     pub filter: u32,
 }
 
 // The alarm register with the count of its bits that stand.
-#[derive(Drop)]
+#[derive(Clone, Copy)]
 pub struct Alarms {
     pub register: Register,
     // 0 to 32.

@@ -1,5 +1,7 @@
 // The bench program's work, but for reading and writing: the records of its input, the meter that they
 // drive, the lines of its listing; and a whole input at once, from its bytes to the page.
+#![tactic(auto)]
+
 ghost use Rattle.std.specs.Prelude.{◌≡◌};
 ghost use Rattle.tables.specs.Index.{table_in};
 ghost use Rattle.replay.specs.Replay.{replay_answer, replayed};
@@ -26,14 +28,14 @@ pub const RECORD_LEN: usize = 21;
 // A line of the listing: the bytes from `start` to the end. Digits come out of a number from the last
 // to the first, so that a line is made from its end. Four numbers of at most 20, 3, 3 and 10 digits,
 // each with a byte behind it, are 40 bytes.
-#[derive(Drop)]
+#[derive(Clone, Copy)]
 pub struct ListingLine {
     pub bytes: [u8; 40],
     pub start: usize,
 }
 
 // What became of an input.
-#[derive(Drop)]
+#[derive(Clone, Copy)]
 pub enum Replayed {
     // The page of its history is written.
     Written,

@@ -1,5 +1,7 @@
 // The xDLMS requests of the Green Book that a meter takes, read from bytes: get-request-normal,
 // set-request-normal and action-request-normal, unciphered, without selective access.
+#![tactic(auto)]
+
 ghost use Rattle.std.specs.Prelude.{◌≡◌};
 ghost use Rattle.requests.specs.Requests.{setting, acting, request_of, request_in};
 ghost use Rattle.requests.specs.Laws.{Laws};
@@ -9,7 +11,7 @@ mod described;
 mod value;
 
 // A value with its type, one of the five that the meter takes.
-#[derive(Drop)]
+#[derive(Clone, Copy)]
 pub enum Data {
     // Its byte as sent: any but 0 is true.
     Boolean(u8),
@@ -22,7 +24,7 @@ pub enum Data {
 }
 
 // A value, or none.
-#[derive(Drop)]
+#[derive(Clone, Copy)]
 pub enum OptionalData {
     Absent,
     Present(Data),
@@ -30,7 +32,7 @@ pub enum OptionalData {
 
 // A cosem-attribute-descriptor or a cosem-method-descriptor: class-id, logical name (the instance-id, six
 // bytes as one number, the highest first), attribute-id or method-id.
-#[derive(Drop)]
+#[derive(Clone, Copy)]
 pub struct Descriptor {
     pub class: u16,
     pub name: u64,
@@ -39,7 +41,7 @@ pub struct Descriptor {
 
 // A request: its invoke-id-and-priority, what it is about, and the value of a SET or the
 // method-invocation-parameters of an ACTION, which are optional.
-#[derive(Drop)]
+#[derive(Clone, Copy)]
 pub enum Request {
     Get(u8, Descriptor),
     Set(u8, Descriptor, Data),
@@ -47,7 +49,7 @@ pub enum Request {
 }
 
 // What bytes are read as.
-#[derive(Drop)]
+#[derive(Clone, Copy)]
 pub enum Parsed {
     Ok(Request),
     // Refusal 20.

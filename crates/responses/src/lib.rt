@@ -1,5 +1,7 @@
 // The xDLMS responses of the Green Book that a meter gives, put as bytes: get-response-normal,
 // set-response-normal and action-response-normal.
+#![tactic(auto)]
+
 ghost use Rattle.std.specs.Prelude.{◌≡◌, ◌+◌, ◌≤◌, length};
 ghost use Rattle.std.proofs.lemmas.List.Edits.{sets};
 ghost use Rattle.requests.specs.Requests.{short_format, long_format, data_bytes};
@@ -9,7 +11,7 @@ ghost use Rattle.responses.specs.Laws.{Laws};
 use requests::Data;
 
 // The data-access-result of a GET or a SET, the action-result of an ACTION: both have the same numbers.
-#[derive(Drop)]
+#[derive(Clone, Copy)]
 pub enum AccessResult {
     Success,
     ReadWriteDenied,
@@ -43,7 +45,7 @@ impl AccessResult {
 }
 
 // A response: the request's invoke-id-and-priority, and a value or a result.
-#[derive(Drop)]
+#[derive(Clone, Copy)]
 pub enum Response {
     // To a GET, with its value.
     GetData(u8, Data),

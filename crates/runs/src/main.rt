@@ -1,5 +1,7 @@
 // Runs of the meter, one for each file that an argument names: the name, the listing of the file's
 // records, and the page that they leave, an area to a line.
+#![tactic(auto)]
+
 use libc::STDOUT_FILENO;
 use replay::Replayed;
 

@@ -1,5 +1,7 @@
 // A meter as the COSEM server of document 02's A9: what an xDLMS request makes of its record, and the
 // response.
+#![tactic(auto)]
+
 ghost use Rattle.std.specs.Prelude.{◌≡◌};
 ghost use Rattle.tables.specs.Index.{table_in};
 ghost use Rattle.server.specs.Service.{refused_with, served_by, service_sound, service, filled_by};
@@ -18,7 +20,7 @@ use meter::Meter;
 use requests::Parsed;
 
 // What a GET of an attribute reads.
-#[derive(Drop)]
+#[derive(Clone, Copy)]
 pub enum Value {
     OutputState,
     ControlState,
@@ -35,7 +37,7 @@ pub enum Value {
 }
 
 // The call that a SET of an attribute or an ACTION on a method names.
-#[derive(Drop)]
+#[derive(Clone, Copy)]
 pub enum Operation {
     SetMode,
     // Call 7 with two of its numbers kept.
@@ -54,7 +56,7 @@ pub enum Operation {
 
 // An attribute or a method of an object: its class-id, the logical name of its object, its attribute-id or
 // method-id, the tag of its type (a method's is that of its parameter), what it reads and what it names.
-#[derive(Drop)]
+#[derive(Clone, Copy)]
 pub struct Item {
     pub method: bool,
     pub class: u16,
@@ -66,21 +68,21 @@ pub struct Item {
 }
 
 // What the meter has under a descriptor.
-#[derive(Drop)]
+#[derive(Clone, Copy)]
 pub enum Found {
     At(Item),
     Undefined,
 }
 
 // The call that a SET or an ACTION names.
-#[derive(Drop)]
+#[derive(Clone, Copy)]
 pub enum Named {
     One(Call),
     NotWritable,
 }
 
 // What a SET or an ACTION comes to: the record, its result, and the letter of the move that it made.
-#[derive(Drop)]
+#[derive(Clone, Copy)]
 pub struct Accessed {
     pub meter: Meter,
     pub result: responses::AccessResult,
@@ -89,7 +91,7 @@ pub struct Accessed {
 
 // What a request comes to: the record, the response, the letter of the move that it made, and whether a call
 // was carried out.
-#[derive(Drop)]
+#[derive(Clone, Copy)]
 pub struct Responded {
     pub meter: Meter,
     pub response: responses::Response,
@@ -99,7 +101,7 @@ pub struct Responded {
 
 // What bytes come to: the record, whether they were answered (else 21, 12 or 20), how many bytes the response
 // has, the letter of the move that was made, and whether a call was carried out.
-#[derive(Drop)]
+#[derive(Clone, Copy)]
 pub struct Served {
     pub meter: Meter,
     pub answer: Answer,

@@ -1,5 +1,7 @@
 // The berth tariff (document 02, A12): four prices applied to four imports, one a rate, and the rest
 // carried from bill to bill.
+#![tactic(auto)]
+
 ghost use Rattle.std.specs.Prelude.{◌≡◌};
 ghost use Rattle.tariff.specs.Bills.{billed};
 ghost use Rattle.tariff.specs.Laws.{Laws};
@@ -10,7 +12,7 @@ use energy::Energy;
 mod charges;
 mod limits;
 
-#[derive(Drop)]
+#[derive(Clone, Copy)]
 pub struct Charge {
     // Whole cents: the bill.
     pub cents: u64,
@@ -18,7 +20,7 @@ pub struct Charge {
     pub rest: u32,
 }
 
-#[derive(Drop)]
+#[derive(Clone, Copy)]
 pub enum Billed {
     Accepted(Charge),
     // The number of the refusal.

@@ -1,4 +1,6 @@
 // The page's writer.
+#![tactic(auto)]
+
 ghost use Rattle.std.specs.Prelude.{◌≡◌, take};
 ghost use Rattle.tables.specs.Index.{table_in};
 ghost use Rattle.meter.specs.State.{with_logs};
