@@ -4,7 +4,6 @@ use mathlib.Core.Logic.{inl, inr}
 use native.Mathlib.Omega.{arith}
 use types.Run.{OneOf}
 use denote.Enum.Declared.{tag_of}
-use borrow.Author.Rules.{rules}
 use Rattle.control.specs.declared.Decision.{Decision}
 use Rattle.control.specs.declared.Decision.TheVariants.{Move, Stay, NotListed}
 use Rattle.control.specs.contracts.Decision as decisions
@@ -15,8 +14,7 @@ use Rattle.status.specs.declared.Status.{Status}
 use Rattle.status.specs.Status.{status_values}
 use Rattle.status.specs.Step.{status_step_for, status_step_of}
 use Rattle.status.proofs.Limiters.{laws}
-use Rattle.status.proofs.Status.request.Statement.{statement}
-use Rattle.status.proofs.Status.request.Tie as tie
+use Rattle.status.proofs.Status.request.Goals as goal
 
 -- what is listed is carried out, whatever becomes of limiters
 listed : (s : Status) (ls : List Limiter) (d : Decision) → OneOf (0 ∷ 1 ∷ []) (tag_of decisions.the_type d)
@@ -26,12 +24,19 @@ listed s ls Stay h = refl
 listed s ls NotListed (inl e) = absurd (omega arith)
 listed s ls NotListed (inr e) = absurd (omega arith)
 
-pub request_spec : {M : Type 1} → statement M
+pub returns-in-NotListed : goal.returns-in-NotListed
 unfolding request_result
-request_spec {M} =
-    let answers = tie.spec {M = M} (λ c κs. search rules) (λ c. search rules) (λ c κs. search rules) (λ c κs. search rules)
-    (λ c. (rw (← c.before.before.before.decide.ensures, c.before.enum_told.given.1) c.refused.ensures, laws))
-    (λ c.
-    let d = c.before.before.decide in
-    (rw (← d.ensures) (c.switched.ensures ∙ listed c.before.before.before.args.self _ d.result c.before.match.keys2), laws))
-    in tie.close answers
+returns-in-NotListed c =
+    record {
+      value = rw (← c.decide-decision.ensures, c.in-NotListed.is) c.refused.ensures;
+      laws = laws;
+    }
+
+pub returns-in_default : goal.returns-in_default
+unfolding request_result
+returns-in_default c =
+    let d = c.decide-decision in
+    record {
+      value = rw (← d.ensures) (c.switched.ensures ∙ listed c.args.self _ d.result c.in_default.in_default-own.keys2);
+      laws = laws;
+    }
