@@ -3,6 +3,7 @@ use mathlib.Core.List.{List, [], ◌∷◌}
 use mathlib.Core.Logic.{inl, inr}
 use native.Mathlib.Omega.{arith}
 use types.Run.{OneOf}
+use borrow.Enum.Refused.{opened}
 use denote.Enum.Declared.{tag_of}
 use Rattle.control.specs.declared.Decision.{Decision}
 use Rattle.control.specs.declared.Decision.TheVariants.{Move, Stay, NotListed}
@@ -37,6 +38,6 @@ unfolding request_result
 returns-in_default c =
     let d = c.decide-decision in
     record {
-      value = rw (← d.ensures) (c.switched.ensures ∙ listed c.args.self _ d.result c.in_default.in_default-own.keys2);
+      value = rw (← d.ensures) (c.switched.ensures ∙ listed c.args.self _ d.result (opened c.in_default.in_default-own.keys2));
       laws = laws;
     }
