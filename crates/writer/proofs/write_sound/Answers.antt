@@ -39,8 +39,8 @@ returns c =
         sound = λ rows e. (
           rw (e, l),
           rw (e, l)
-              (page_left c.args.out.now c.put_scalars.new.out c.put_logs.new.out c.put_emergency.new.out (given (goal.at.returns c).After-slice_known-1) _ room refl
-              c.put_scalars.ensures (c.put_logs.ensures.area rows (logs_sound rows (given (goal.at.returns c).After-slice_known-1) e)) c.put_emergency.ensures),
+              (page_left c.args.out.now c.put_scalars.new.out c.put_logs.new.out c.put_emergency.new.out (given (goal.at.returns c).Start) _ room refl
+              c.put_scalars.ensures (c.put_logs.ensures.area rows (logs_sound rows (given (goal.at.returns c).Start) e)) c.put_emergency.ensures),
         );
       };
       every_record = writes_every_record;

@@ -13,19 +13,11 @@ use Rattle.phases_page.specs.Laws.{ThreePhaseTyped}
 use Rattle.phases_page.proofs.RoundTrip.{laws}
 use Rattle.phases_page.proofs.Traces.{demand_3, examples}
 use Rattle.writer.proofs.three_phase.write_three_phase_page.Goals as goal
-use Rattle.writer.proofs.three_phase.write_three_phase_page.Goals.{After-sound, After-sound-2, Start}
+use Rattle.writer.proofs.three_phase.write_three_phase_page.Goals.{After-sound-2, Start}
 
--- the test of the scalars, before that of the logs
-abbrev scalars_tested : After-sound-2 → After-sound
-scalars_tested c = c.before.before.before.before.before
-
--- the function's entry, before the record has been tested
-abbrev start : After-sound-2 → Start
-start c = (scalars_tested c).before.before.before
-
-tested : (c : After-sound-2)
-    → (scalars_tested c).sound.result && c.sound-2.result ≡ sound_three_phase_meter (table_in (start c).args.table.now) (start c).args.t1
-tested c = sound_is (table_in (start c).args.table.now) (start c).args.t1 _ _ (scalars_tested c).sound.ensures c.sound-2.ensures
+-- the test of the record, by that of its scalars and that of its logs
+tested : (c : After-sound-2) → c.sound.result && c.sound-2.result ≡ sound_three_phase_meter (table_in c.args.table.now) c.args.m
+tested c = sound_is (table_in c.args.table.now) c.args.m _ _ c.sound.ensures c.sound-2.ensures
 
 fits : (w : Width) (n : ℕ) → Fits w n → n < 2 ^ bits w
 fits w n f = f.fits
@@ -33,14 +25,13 @@ fits w n f = f.fits
 -- the record's numbers are values of their types
 typed : (c : Start) → ThreePhaseTyped c.args.m
 typed c =
-    let registers = c.well_formed.0.1.1.0.1.1.0.1.1.1.1 in
     record {
       openings = search rules;
       clock = search rules;
-      alarms = search (rules, registers);
-      alarm_filter = search (rules, registers);
-      errors = search (rules, registers);
-      error_filter = search (rules, registers);
+      alarms = search rules;
+      alarm_filter = search rules;
+      errors = search rules;
+      error_filter = search rules;
       logs = record { counts = search rules; clocks = search rules; codes = search rules };
       counts = λ i. fits w8 (get_or c.args.m.logs.counts i 0) (search rules);
       clocks = λ i. omega (arith, fits w32 (get_or c.args.m.logs.clocks i 0) (search rules));
@@ -57,10 +48,12 @@ writer_promises rows m out a left t e = (e, (λ h. rw e.1 ((laws.by_table rows).
 pub returns-then-not-sound : goal.returns-then-not-sound
 unfolding three_phase_write_answer three_phase_written
 returns-then-not-sound c =
-    let e = sym (tested (goal.at.returns-then-not-sound c).After-sound-2) ∙ not-true _ c.if-not-sound.true in
-    let a = (start (goal.at.returns-then-not-sound c).After-sound-2).args in
-    writer_promises _ a.t1 a.out.now (Refused 12) a.out.now (typed (start (goal.at.returns-then-not-sound c).After-sound-2)) (rw e, rw e)
+    let e = sym (tested (goal.at.returns-then-not-sound c).After-sound-2) ∙ c.if-not-sound.true in
+    let a = c.args in
+    let p = writer_promises (table_in a.table.now) a.m a.out.now (Refused 12) a.out.now (typed (goal.at.returns-then-not-sound c).Start) (rw e, rw e) in
+    record { value = p.0; restored = p.1.0; demand3 = p.1.1.0; examples = p.1.1.1 }
 
 pub returns : goal.returns
 returns c =
-    writer_promises _ _ _ _ _ (typed (start (goal.at.returns c).After-sound-arg-3-1)) (c.write_three_phase_sound.ensures.three_phase_writes_sound.sound _ (sym (tested (goal.at.returns c).After-sound-2) ∙ c.if-not-sound.false))
+    let p = writer_promises _ _ _ _ _ (typed (goal.at.returns c).Start) (c.write_three_phase_sound.ensures.three_phase_writes_sound.sound _ (sym (tested (goal.at.returns c).After-sound-2) ∙ c.if-not-sound.false)) in
+    record { value = p.0; restored = p.1.0; demand3 = p.1.1.0; examples = p.1.1.1 }
