@@ -1,4 +1,4 @@
-use Rattle.page.proofs.Common.{◌≡◌, ◌∙◌, sym, ◌&&◌, List, ℕ, ◌<◌, ◌^◌, arith, get_or, take, Width, w8, w32, Fits, bits, rules, not-true}
+use Rattle.page.proofs.Common.{◌≡◌, ◌∙◌, sym, ◌&&◌, List, ℕ, ◌<◌, ◌^◌, arith, get_or, take, Width, w8, w32, Fits, bits, rules}
 use Rattle.page.proofs.Common.{Accepted, Refused}
 use Rattle.events.specs.Table.{EventRow}
 use Rattle.tables.specs.Index.{table_in}
