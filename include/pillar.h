@@ -1,6 +1,6 @@
 /*
  * The switching core of the pillar meter, as C and C++ see it: the archive is
- * target/staticlib/libpillar.a, for x86-64, made by `rt staticlib pillar`. It
+ * target/staticlib/libpillar.a, for x86-64, made by `tools/archive pillar`. It
  * needs memcpy and memset, and nothing else. This header is C99 and C++11.
  *
  * A meter's state is its page of PILLAR_PAGE_SIZE bytes, which the caller
