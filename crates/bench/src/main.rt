@@ -1,16 +1,16 @@
-// The bench program: records on standard input, their listing on standard output. A program of this
-// language has no exit status: where the listing is not that of the whole input, or is not written,
-// it says so on standard error.
+// The bench program: records on standard input, their listing on standard output. Where the listing is
+// not that of the whole input, or is not written, it says so on standard error.
 #![tactic(auto)]
 
-use libc::STDERR_FILENO;
+use std::io;
 
-fn main() {
-    let printed = listing::print_listing(libc::STDIN_FILENO, libc::STDOUT_FILENO);
+fn main(rt: HostRuntime) -> io::Result<()> {
+    let printed = listing::print_listing(&mut rt.stdin(), &mut rt.stdout());
     if !printed.read {
-        io::write_all(STDERR_FILENO, b"bench: cannot read the records\n");
+        rt.eprintln("bench: cannot read the records")?;
     }
     if !printed.written {
-        io::write_all(STDERR_FILENO, b"bench: cannot write the listing\n");
+        rt.eprintln("bench: cannot write the listing")?;
     }
+    Ok(())
 }

@@ -1,4 +1,3 @@
 pub mod Sharing
 pub mod NearMisses
 pub mod Loops
-pub mod Walking

@@ -10,7 +10,7 @@ use Rattle.base.proofs.Prelude.{◌≡◌, refl, sym, ap, ◌∙◌, Bool, true,
 use Rattle.base.proofs.Prelude.{◌+◌, ◌-◌}
 use Rattle.base.proofs.Prelude.{◌<◌, ◌≤◌, add-one, arith, eqb, ltb, ℤ, length, take, drop, get_or, set, take-append-drop, take_all, length-take-le}
 use Rattle.base.proofs.Prelude.{drop_of_length-le, drop-cons}
-use Rattle.base.proofs.Prelude.{lt-ltb, le-ltb, ltb-true, ltb-false, any, by_test}
+use Rattle.base.proofs.Prelude.{lt-ltb, le-ltb, ltb-true, ltb-false, any}
 use mathlib.Core.Bool.{or_assoc}
 use lib.Seq.{take-suc-set, drop-set-lt, get_or-take}
 use Rattle.base.specs.Numbers.{positive_part}

@@ -8,7 +8,7 @@ use lib.Signed.{lt_z}
 use Rattle.base.specs.Numbers.{positive_part}
 use Rattle.berths.specs.declared.Berth.{Berth}
 use Rattle.berths.specs.Allotments.{first_part, wanted, beyond_first, with_allotment, sum, guarantees, allotted, is_faulty, any_faulty, refusal, filled}
-use Rattle.berths.specs.Laws.{berth_at, allotment_at, bounds_of, Shares, LawsOf, Laws}
+use Rattle.berths.specs.Laws.{berth_at, allotment_at, bounds_of, Shares, Laws}
 
 -- ---- what it says that nothing is refused
 none_refused : (a b c : Bool) → ◌≡◌ {A = ℕ} (cond a 22 (cond b 23 (cond c 24 0))) 0 → (b ≡ false) × (c ≡ false)

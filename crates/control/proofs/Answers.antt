@@ -5,7 +5,7 @@ use mathlib.Core.List.{[], ◌∷◌}
 use Prim.Native.Nat.{ℕ, zero, suc, ◌<◌, ◌≤◌}
 use native.Mathlib.Omega.{arith}
 use lib.Dec.{eqb, ltb}
-use borrow.Author.Tests.{ltb-true, ltb-false, lt-leb, ne_eqb}
+use borrow.Author.Tests.{ltb-true, ltb-false}
 use Rattle.base.specs.Tests.{among, within}
 use Rattle.base.proofs.Bools.{by_test}
 use Rattle.base.proofs.Tests.{tests, above_leb}

@@ -1,7 +1,7 @@
 -- A sound area is in one of three states, its ids past the count are zero, and every step keeps it sound.
-use Rattle.base.proofs.Prelude.{◌≡◌, refl, sym, ap, ◌∙◌, true, false, ◌&&◌, ◌||◌, cond, false≢true, List, ℕ, ◌-◌, ◌<◌, ◌≤◌, arith, eqb, leb, ltb, ℤ}
+use Rattle.base.proofs.Prelude.{◌≡◌, refl, ap, true, ◌&&◌, false≢true, List, ℕ, ◌-◌, ◌<◌, ◌≤◌, arith, eqb, leb, ℤ}
 use Rattle.base.proofs.Prelude.{pos, negsuc, length, get_or, length-take, le-leb, le-ltb, eq-eqb, eqb-true, leb-true}
-use Rattle.base.proofs.Prelude.{leb-false, below, within, by_test, and_left, and_right}
+use Rattle.base.proofs.Prelude.{leb-false, within, by_test, and_left, and_right}
 use Rattle.base.proofs.Below.{below_at}
 use Rattle.base.specs.Tests.{eq_z}
 use Rattle.limiter.specs.Limiter.{is_threshold}

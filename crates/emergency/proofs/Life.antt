@@ -1,5 +1,5 @@
 -- A profile's life: it waits, governs its samples and is gone, and the group ids stay.
-use Rattle.base.proofs.Prelude.{◌≡◌, refl, true, false, ◌&&◌, cond, List, ℕ, zero, suc, ◌-◌, ◌<◌, ◌≤◌, arith, eqb, leb, ltb, ℤ, lt-ltb, le-ltb}
+use Rattle.base.proofs.Prelude.{◌≡◌, refl, ◌&&◌, cond, List, ℕ, zero, suc, ◌-◌, ◌<◌, ◌≤◌, arith, eqb, leb, ltb, ℤ, lt-ltb, le-ltb}
 use Rattle.base.proofs.Prelude.{le-leb, lt-leb, leb-true, leb-false, ltb-true, ltb-false, by_test}
 use Rattle.emergency.specs.declared.Emergency.{Emergency}
 use Rattle.emergency.specs.Emergency.{groups_in, with_fields, with_groups, with_profile, without_profile, started, ended, in_force}

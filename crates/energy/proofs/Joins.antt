@@ -1,14 +1,13 @@
 -- The laws of days and of joins. A day whose remainders are below 3,600 is two numbers of watt-seconds, and joining adds them.
-use Rattle.base.proofs.Prelude.{◌≡◌, refl, sym, ap, ap₂, ◌∙◌, Bool, true, false, ◌&&◌, ◌||◌, not, cond, false≢true, or-true, List, [], ◌∷◌, ◌++◌, ℕ, suc}
-use Rattle.base.proofs.Prelude.{◌+◌, ◌*◌, ◌/◌, ◌%◌, ◌<◌, ◌≤◌, add_assoc, arith, leb, ltb, ℤ, pos, negsuc, length, lt-ltb, le-ltb, le-leb, lt-leb, ltb-true}
-use Rattle.base.proofs.Prelude.{ltb-false, leb-true, leb-false, every, and_left, and_right, by_test}
+use Rattle.base.proofs.Prelude.{◌≡◌, refl, sym, ap, ap₂, ◌∙◌, Bool, true, false, ◌&&◌, ◌||◌, not, cond, false≢true, or-true, List, [], ◌∷◌, ℕ}
+use Rattle.base.proofs.Prelude.{◌+◌, ◌*◌, ◌/◌, ◌%◌, ◌<◌, ◌≤◌, add_assoc, arith, leb, ℤ, pos, negsuc, length, lt-ltb, le-ltb, lt-leb, ltb-true}
+use Rattle.base.proofs.Prelude.{leb-true, leb-false, every, and_left, and_right, by_test}
 use Rattle.base.proofs.Bools.{neither}
 use Rattle.base.proofs.Every.{every_first, every_rest}
 use native.Mathlib.Nat.{add_comm}
 use Rattle.base.specs.Numbers.{positive_part, negative_part}
 use Rattle.energy.specs.declared.Energy.{Energy}
 use Rattle.energy.specs.declared.Day.{Day}
-use Rattle.energy.specs.declared.Joined.{Joined}
 use Rattle.energy.specs.declared.Joined.TheVariants as one
 use Rattle.energy.specs.declared.Measured.{Measured}
 use Rattle.energy.specs.declared.Measured.TheVariants.{Accepted, Refused}

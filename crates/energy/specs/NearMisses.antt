@@ -1,5 +1,5 @@
 -- Days and joins at the edge of each refusal, and days by hand. Computed.
-use Rattle.std.specs.Prelude.{◌≡◌, List, [], ◌∷◌, map, ℕ, pos, negsuc}
+use Rattle.std.specs.Prelude.{◌≡◌, [], ◌∷◌, map, ℕ, pos, negsuc}
 use Rattle.energy.specs.declared.Energy.{Energy}
 use Rattle.energy.specs.declared.Day.{Day}
 use Rattle.energy.specs.declared.Measured.TheVariants.{Accepted}

@@ -1,8 +1,7 @@
 -- What single calls do to mode, limiter settings, clock, groups, bits and filters, which of them are refused, and the lines that they owe.
 use Prim.Native.Nat.{ℕ, ◌+◌, ◌≤◌, ◌<◌, min}
 use native.Mathlib.Omega.{arith}
-use native.Mathlib.Nat.{add-zero}
-use mathlib.Core.Path.{◌≡◌, refl, sym, ap, ◌∙◌}
+use mathlib.Core.Path.{◌≡◌, refl, sym, ap}
 use mathlib.Core.Bool.{Bool, true, false, not, ◌&&◌, ◌||◌, cond, false≢true, or-true, and-false}
 use mathlib.Core.List.{List, [], ◌∷◌}
 use mathlib.Core.Logic.{◌↔◌, ◌≢◌, ◌⊎◌, inl, inr}
@@ -21,13 +20,12 @@ use Rattle.history.specs.Effects.{AnyFresh, remote_disconnect, remote_reconnect,
 use Rattle.history.specs.Effects.{sampled, requested, mode_set, limits_set, clock_set, occurred, filter_set, bits_cleared, log_cleared, groups_set, profile_set}
 use Rattle.history.specs.Effects.{sample, request, set_mode, set_limiter, set_clock, event, set_filter, clear_bits, clear_log}
 use Rattle.history.specs.Effects.{script, set_groups, set_profile, Profile, accepted, refused, reading}
-use Rattle.history.specs.Last.{History, otherwise, given, last, mode_of, limits, limits_of, same_register, filter_of, samples_since, clock_of}
+use Rattle.history.specs.Last.{History, otherwise, given, last, mode_of, limits, limits_of, filter_of, samples_since, clock_of}
 use Rattle.history.specs.Profile.{groups_of}
 use Rattle.history.specs.Switch.{spell, observations, last_decided, switch_of}
 use Rattle.history.specs.Registers.{is_bit, stands}
 use Rattle.history.specs.Logs.{when, moves, owed_by}
 use Rattle.history.specs.Laws.{InDays, Lasting}
-use Rattle.history.proofs.Splits.{some≢none}
 use Rattle.history.proofs.Letters.{OneOrTwo, one, two, last_decided_lem}
 
 -- ---- bits

@@ -10,7 +10,7 @@ use mathlib.Core.Option.{Option, none, some}
 use lib.Dec.{eqb, leb, ltb}
 use lib.IntN.{ℤ, pos, negsuc}
 use lib.Signed.{lt_z, le_z}
-use lib.ListN.{length, take, length-take}
+use lib.ListN.{length, length-take}
 use borrow.Author.Tests.{leb-true, leb-false, ltb-true, ltb-false, lt-leb, le-leb, lt-ltb, le-ltb, eq-eqb}
 use Rattle.base.specs.Tests.{within, among, every, any, gathered, eq_z}
 use Rattle.base.proofs.Bools.{and_left}
@@ -20,14 +20,14 @@ use Rattle.history.specs.Effects.{AnyFresh, Profile, RequestCall, remote_disconn
 use Rattle.history.specs.Effects.{set_limiter, set_clock, event, set_filter, clear_bits, clear_log, script, set_groups, set_profile, Reading, refused}
 use Rattle.history.specs.Effects.{accepted, listed_modes, read_request, read_event, reading, Effect, sampled, requested, mode_set, limits_set, clock_set}
 use Rattle.history.specs.Effects.{occurred, filter_set, bits_cleared, log_cleared, groups_set, profile_set}
-use Rattle.history.specs.Last.{History, last, samples_since, mode_of, clock_of, limits_of, threshold_of, number_at}
+use Rattle.history.specs.Last.{History, last, samples_since, mode_of, clock_of, threshold_of, number_at}
 use Rattle.history.specs.Profile.{groups_in, groups_of, profile_in, profile_of, clocks_since, from_reached, governed, ProfileState, no_profile, waiting}
 use Rattle.history.specs.Profile.{active, state_by, state_at, profile_state, threshold_by, threshold_in_force, threshold_with, threshold_at}
 use Rattle.history.specs.Limiter.{Observation, judged, since_setting, exceeded, trailing, run, monitored_values}
 use Rattle.history.specs.Switch.{setting_of, change_seen, observations, switch_of}
 use Rattle.history.specs.Logs.{when, moves, local_code, firing_lines, change_lines, owed_by}
 use Rattle.history.specs.Account.{grown, accepted_calls}
-use Rattle.history.specs.Splits.{Each, NonePicks, Latest, LatestElse, latest, never, samples_in, NoneSet, NotReached, Waits, Begun, InState, none_ever}
+use Rattle.history.specs.Splits.{Each, NonePicks, Latest, LatestElse, never, samples_in, NoneSet, NotReached, Waits, Begun, InState, none_ever}
 use Rattle.history.specs.Splits.{waits, runs, ended}
 use Rattle.history.specs.Laws.{Governs}
 use Rattle.history.proofs.Lists.{each_none, each_more, each_first, each_rest, latest_or_none, kept}

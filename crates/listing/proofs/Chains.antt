@@ -1,8 +1,8 @@
 -- Blocks that were read one after the other, and one more.
-use Rattle.base.proofs.Prelude.{◌≡◌, refl, sym, ap, ◌∙◌, subst, true, false, List, [], ◌∷◌, ◌++◌, ℕ, ◌<◌, ◌≤◌, length}
-use Rattle.listing.specs.declared.{Progress.Progress, ListingEnd.ListingEnd}
-use Rattle.listing.specs.Listing.{after_first, after_block, after_blocks, Blocks}
-use Rattle.listing.specs.Laws.{BlockRead, BlocksRead, InputRead}
+use Rattle.base.proofs.Prelude.{◌≡◌, refl, sym, ap, ◌∙◌, true, List, [], ◌∷◌, ◌++◌, ℕ, ◌≤◌, length}
+use Rattle.listing.specs.declared.{Progress.Progress}
+use Rattle.listing.specs.Listing.{after_block, after_blocks, Blocks}
+use Rattle.listing.specs.Laws.{BlockRead}
 
 blocks_snoc : (p : Progress) (ss : List (List ℕ)) (s : List ℕ) → Blocks p ss → (after_blocks p ss).more ≡ true → length s ≤ 4095
     → Blocks p (ss ++ (s ∷ []))
@@ -34,12 +34,3 @@ led_on before led more read =
         read.progress ∙ ap (λ (p : Progress). after_block p s) led.1.1 ∙ sym (after_snoc before ss s),
       ),
     )
-
-pub blocks_read : {before : Progress} {r : ListingEnd} → Led before r.progress
-    → (r.written ≡ true → r.progress.position < 18446744073709551420 → r.progress.more ≡ false) → BlocksRead before r
-blocks_read led ended = record { blocks = led.0; followed = led.1.0; progress = led.1.1; ended = ended }
-
--- the first bytes, and what follows them
-pub input_read : (first : List ℕ) → length first ≤ 21 → {p : Progress} → p ≡ after_first first → {r : ListingEnd} → BlocksRead p r
-    → InputRead r
-input_read first fits e {r} rest = record { first = first; fits = fits; rest = subst (λ (p : Progress). BlocksRead p r) e rest }

@@ -2,7 +2,7 @@
 // does to the meter, and what its line says, is `replay`'s.
 //
 // Proved are the texts, each by the bytes it is made of, and that together they are the listing of the
-// whole input. No contract of reading or writing says which bytes a stream has: it is left to
+// whole input. No contract here says which bytes a reader gives and a writer takes: it is left to
 // comparison that the blocks are the input's bytes, and that each text is written, once and in order.
 #![tactic(auto)]
 
@@ -11,11 +11,12 @@ ghost use Rattle.listing.specs.Laws.{BlockRead, BlocksRead, InputRead, Laws};
 ghost use Rattle.listing.specs.Examples.{Examples};
 
 mod lines;
-mod reading;
+pub mod reading;
 
 use lines::LINE_LEN;
 use meter::Meter;
 use replay::RECORD_LEN;
+use std::io::{Read, Write};
 
 // The input is read in blocks of whole records, so that a record is cut only where the input ends.
 pub(crate) const BLOCK_RECORDS: usize = 195;
@@ -46,7 +47,7 @@ pub struct ListingEnd {
 }
 
 // Reads a block and writes its text.
-fn print_block(input: i32, output: i32, before: Progress) -> ListingEnd
+fn print_block<R: Read, W: Write>(input: &mut R, output: &mut W, before: Progress) -> ListingEnd
     requires { before.position + 195 ≤ 18446744073709551615 }
     ensures { BlockRead before result.progress }
 {
@@ -57,7 +58,7 @@ fn print_block(input: i32, output: i32, before: Progress) -> ListingEnd
     let part = lines::put_block(&mut text, &block[..count], before);
     let progress = part.progress;
     let len = part.len;
-    let written = io::write_all(output, &text[..len]);
+    let written = output.write_all(&text[..len]).is_ok();
     ListingEnd {
         progress,
         read: !got.failed,
@@ -67,7 +68,7 @@ fn print_block(input: i32, output: i32, before: Progress) -> ListingEnd
 
 // Reads and writes block by block, behind what is printed. A proved loop has to end, and nothing says
 // that the input does: this one ends before the position wraps.
-fn print_blocks(input: i32, output: i32, first: ListingEnd) -> ListingEnd
+fn print_blocks<R: Read, W: Write>(input: &mut R, output: &mut W, first: ListingEnd) -> ListingEnd
     ensures { BlocksRead first.progress result }
 {
     let mut printed = first;
@@ -78,9 +79,9 @@ fn print_blocks(input: i32, output: i32, first: ListingEnd) -> ListingEnd
     printed
 }
 
-// Reads records from one descriptor to its end, and writes their listing to the other. It stops where
-// a read or a write fails.
-pub fn print_listing(input: i32, output: i32) -> ListingEnd
+// Reads records from a reader to its end, and writes their listing to a writer. It stops where a read
+// or a write fails.
+pub fn print_listing<R: Read, W: Write>(input: &mut R, output: &mut W) -> ListingEnd
     ensures input_read { InputRead result }
     ensures laws { Laws }
     ensures examples { Examples }
@@ -92,7 +93,7 @@ pub fn print_listing(input: i32, output: i32) -> ListingEnd
     let part = lines::put_first(&mut text, &bytes[..count]);
     let progress = part.progress;
     let len = part.len;
-    let written = io::write_all(output, &text[..len]);
+    let written = output.write_all(&text[..len]).is_ok();
     let first = ListingEnd {
         progress,
         read: !got.failed,

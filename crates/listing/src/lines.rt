@@ -1,7 +1,7 @@
 // The listing's text: that of the first record, and that of a block of later ones.
 ghost use Rattle.std.specs.Prelude.{◌≡◌, ◌+◌, ◌≤◌, length};
 ghost use Rattle.events.specs.Table.{built_in};
-ghost use Rattle.io.specs.Counts.{IsPrefixLen};
+ghost use Rattle.std.specs.Counts.{IsPrefixLen};
 ghost use Rattle.replay.specs.Replay.{records_from, meter_after};
 ghost use Rattle.listing.specs.Lines.{PutBehind, PutAtStart, shown, lines_in};
 ghost use Rattle.listing.specs.Listing.{cut_line, first_text, after_first, block_text, after_block};

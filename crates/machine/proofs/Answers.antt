@@ -27,11 +27,10 @@ use Rattle.history.specs.Effects.{RequestCall, remote_disconnect, remote_reconne
 use Rattle.history.specs.Effects.{request as request_call, set_mode, set_limiter, set_clock, event, set_filter, clear_bits, clear_log, script, set_groups}
 use Rattle.history.specs.Effects.{set_profile, Effect, requested}
 use Rattle.history.specs.Effects.{listed_modes, Reading, refused, accepted, read_request, read_limits, read_event, reading}
-use Rattle.machine.specs.Values.{Values, State}
-use Rattle.machine.specs.Machine.{Result, refusing, making, answered_with, moving, decided, answering, armed_values, request_result, mode_result}
+use Rattle.machine.specs.Values.{Values}
+use Rattle.machine.specs.Machine.{making, answered_with, moving, decided, answering, armed_values, request_result, mode_result}
 use Rattle.machine.specs.Machine.{limiter_result, occurring, event_result, clear_log_result, script_result, groups_result, profile_result, request_of, result}
 use Rattle.machine.specs.Machine.{Change}
-use Rattle.machine.specs.Machine.{state_after}
 use Rattle.machine.specs.Settings.{limits_answer}
 use Rattle.machine.specs.Ranges.{is_id, AnyInRange}
 use Rattle.machine.proofs.Effects.{read_result, Proper}

@@ -13,7 +13,6 @@ use lib.ListN.{length}
 use borrow.Author.Tests.{leb-true, leb-false, ltb-true, ltb-false, lt-ltb, le-ltb}
 use Rattle.base.specs.Numbers.{held}
 use Rattle.base.specs.Tests.{any, eq_z}
-use Rattle.limiter.specs.declared.Limiter.{Limiter}
 use Rattle.emergency.specs.declared.Emergency.{Emergency}
 use Rattle.emergency.specs.Emergency.{groups_in, with_fields, with_profile, without_profile, started, ended, in_force}
 use Rattle.emergency.proofs.Kept.{taken_back}

@@ -89,50 +89,50 @@ Switches f e h code d = or_stay d ≡ change (switch_of f h) (switch_of f (e ∷
 
 -- the rows of each request, in each position: inside a spell (s) it is 0, else what the last deciding call gave (c)
 module _ (m : ℕ) (listed : within 1 6 m ≡ true) where
-  remote_disconnect : (s : Bool) {c : ℕ} → OneOrTwo c
+  remote_disconnect_lem : (s : Bool) {c : ℕ} → OneOrTwo c
       → or_stay (answered request.RemoteDisconnect m (cond s 0 c)) ≡ change (cond s 0 c) 0 62 (request_letter remote_disconnect (cond s 0 c) 0)
   unfolding answered
-  remote_disconnect true p = rw listed
-  remote_disconnect false one = rw listed
-  remote_disconnect false two = rw listed
+  remote_disconnect_lem true p = rw listed
+  remote_disconnect_lem false one = rw listed
+  remote_disconnect_lem false two = rw listed
 
-  remote_reconnect : (s x : Bool) → among (2 ∷ 4 ∷ []) m ≡ x → {c : ℕ} → OneOrTwo c
+  remote_reconnect_lem : (s x : Bool) → among (2 ∷ 4 ∷ []) m ≡ x → {c : ℕ} → OneOrTwo c
       → let to = otherwise (cond s (some (cond x 1 2)) (given x 1)) c in
       or_stay (answered request.RemoteReconnect m (cond s 0 c)) ≡ change (cond s 0 c) to (cond (eqb to 1) 63 59) (cond (eqb to 1) A D)
   unfolding answered among
-  remote_reconnect true true e p = rw (listed, e)
-  remote_reconnect true false e p = rw (listed, e)
-  remote_reconnect false true e one = rw (listed, e)
-  remote_reconnect false true e two = rw (listed, e)
-  remote_reconnect false false e one = rw (listed, e)
-  remote_reconnect false false e two = rw (listed, e)
+  remote_reconnect_lem true true e p = rw (listed, e)
+  remote_reconnect_lem true false e p = rw (listed, e)
+  remote_reconnect_lem false true e one = rw (listed, e)
+  remote_reconnect_lem false true e two = rw (listed, e)
+  remote_reconnect_lem false false e one = rw (listed, e)
+  remote_reconnect_lem false false e two = rw (listed, e)
 
-  manual_disconnect : eqb m 5 || within 1 2 m ≡ true → (s : Bool) {c : ℕ} → OneOrTwo c
+  manual_disconnect_lem : eqb m 5 || within 1 2 m ≡ true → (s : Bool) {c : ℕ} → OneOrTwo c
       → or_stay (answered request.ManualDisconnect m (cond s 0 c)) ≡ change (cond s 0 c) (cond s 0 (otherwise (given (not s) 2) c)) 60 F
   unfolding answered
-  manual_disconnect e true p = rw (listed, e)
-  manual_disconnect e false one = rw (listed, e)
-  manual_disconnect e false two = rw (listed, e)
+  manual_disconnect_lem e true p = rw (listed, e)
+  manual_disconnect_lem e false one = rw (listed, e)
+  manual_disconnect_lem e false two = rw (listed, e)
 
-  manual_reconnect : (s : Bool) {c : ℕ} → OneOrTwo c
+  manual_reconnect_lem : (s : Bool) {c : ℕ} → OneOrTwo c
       → or_stay (answered request.ManualReconnect m (cond s 0 c)) ≡ change (cond s 0 c) (cond s 0 (otherwise (given (not s) 1) c)) 61 E
   unfolding answered
-  manual_reconnect true p = rw listed
-  manual_reconnect false one = rw listed
-  manual_reconnect false two = rw listed
+  manual_reconnect_lem true p = rw listed
+  manual_reconnect_lem false one = rw listed
+  manual_reconnect_lem false two = rw listed
 
 -- a request
 pub request_switches : (f : AnyFresh) (h : History) (q : RequestCall) → Proper (mode_of f h) (requested q)
     → Switches f (requested q) h (request_code q (switch_of f (requested q ∷ h))) (decision switch_table (request_of q) (mode_of f h) (switch_of f h))
 unfolding switch_of spell last last_decided
 request_switches f h remote_disconnect p =
-    rw rows (remote_disconnect (mode_of f h) (listed_mode remote_disconnect (mode_of f h) p) (spell h) (last_decided_lem f h))
+    rw rows (remote_disconnect_lem (mode_of f h) (listed_mode remote_disconnect (mode_of f h) p) (spell h) (last_decided_lem f h))
 request_switches f h remote_reconnect p =
-    rw rows (remote_reconnect (mode_of f h) (listed_mode remote_reconnect (mode_of f h) p) (spell h) (among (2 ∷ 4 ∷ []) (mode_of f h)) refl (last_decided_lem f h))
+    rw rows (remote_reconnect_lem (mode_of f h) (listed_mode remote_reconnect (mode_of f h) p) (spell h) (among (2 ∷ 4 ∷ []) (mode_of f h)) refl (last_decided_lem f h))
 request_switches f h manual_disconnect p =
-    rw rows (manual_disconnect (mode_of f h) (listed_mode manual_disconnect (mode_of f h) p) (disconnect_mode (mode_of f h) p) (spell h) (last_decided_lem f h))
+    rw rows (manual_disconnect_lem (mode_of f h) (listed_mode manual_disconnect (mode_of f h) p) (disconnect_mode (mode_of f h) p) (spell h) (last_decided_lem f h))
 request_switches f h manual_reconnect p =
-    rw rows (manual_reconnect (mode_of f h) (listed_mode manual_reconnect (mode_of f h) p) (spell h) (last_decided_lem f h))
+    rw rows (manual_reconnect_lem (mode_of f h) (listed_mode manual_reconnect (mode_of f h) p) (spell h) (last_decided_lem f h))
 
 -- a mode
 mode_rows : (n : ℕ) (s z : Bool) → eqb n 0 ≡ z → {c : ℕ} → OneOrTwo c

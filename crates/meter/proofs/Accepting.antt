@@ -50,5 +50,5 @@ fresh_laws =
       accepted_settings = accepted_settings;
       accepted_meter = accepted_meter;
       refused_meter = refused_meter;
-      least_settings = record { mode = refl; threshold = refl; over = refl; under = refl; clock = omega arith };
+      least_settings_lem = record { mode = refl; threshold = refl; over = refl; under = refl; clock = omega arith };
     }

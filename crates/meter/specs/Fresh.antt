@@ -55,4 +55,4 @@ pub record FreshLaws : Type 0 where
   pub accepted_meter : (f : Fresh) → (fresh_of f).answer ≡ Accepted → (fresh_of f).meter ≡ record_of (fresh_state f)
   -- 'A refused fresh .. returns the meter of mode 0, threshold 0, durations 1, clock 0', whose settings fresh accepts
   pub refused_meter : (f : Fresh) (n : ℕ) → (fresh_of f).answer ≡ Refused n → (fresh_of f).meter ≡ least_meter
-  pub least_settings : Settings least_settings
+  pub least_settings_lem : Settings least_settings

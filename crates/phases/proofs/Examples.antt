@@ -8,16 +8,16 @@ pub examples : Examples
 unfolding account_from letter_from reading every
 examples =
     record {
-      three_over = refl;
+      three_over_lem = refl;
       three_over_opens = refl;
       three_over_letter = refl;
-      one_remains = refl;
+      one_remains_lem = refl;
       one_remains_open = refl;
       one_remains_letter = refl;
       none_remains = refl;
       none_remains_closes = refl;
       none_remains_letter = refl;
-      over_and_under = refl;
+      over_and_under_lem = refl;
       over_and_under_opens = refl;
       over_and_under_letter = refl;
       sum_alone_over = refl;

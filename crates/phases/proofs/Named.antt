@@ -1,13 +1,12 @@
 -- The call that a kind names is of that kind, and the kinds from 1 to 15 name one.
 use Rattle.base.proofs.Prelude.{◌≡◌, refl, sym, ◌∙◌, true, false, cond, false≢true, and-false, ℕ, suc, ◌≤◌, arith, eqb, lt-leb, eqb-true, eqb-false, within}
-use Rattle.base.proofs.Prelude.{by_test, ℤ, pos, negsuc, ◌-◌, lt-ltb, le-ltb, leb-true}
+use Rattle.base.proofs.Prelude.{by_test}
 use Rattle.phases.specs.declared.{ThreePhaseCall.ThreePhaseCall, ThreePhaseCommand.ThreePhaseCommand, ThreePhaseParsed.ThreePhaseParsed}
 use Rattle.phases.specs.declared.ThreePhaseCall.TheVariants.{Sample, RemoteDisconnect, RemoteReconnect, ManualDisconnect, ManualReconnect, SetMode}
 use Rattle.phases.specs.declared.ThreePhaseCall.TheVariants.{SetLimiter, SetClock, Event, SetAlarmFilter, SetErrorFilter, ClearAlarms, ClearErrors}
 use Rattle.phases.specs.declared.ThreePhaseCall.TheVariants.{ClearLog, Script}
 use Rattle.phases.specs.declared.ThreePhaseParsed.TheVariants.{Ok, NoKind}
 use Rattle.base.specs.Tests.{numbers_from}
-use Rattle.calls.specs.Laws.{bits_of}
 use Rattle.calls.proofs.Named.{signed_back}
 use Rattle.phases.specs.Calls.{three_phase_kind_of, three_phase_call_of, ThreePhaseInRange}
 use Rattle.phases.specs.Laws.{three_phase_command_naming, Laws}

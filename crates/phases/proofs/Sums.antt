@@ -1,5 +1,5 @@
 -- Signed numbers in 64 bits: those of 32 fit, and so does the sum of three.
-use Rattle.base.proofs.Prelude.{◌≡◌, refl, cond, Bool, true, false, ℕ, suc, ◌+◌, ◌-◌, ◌<◌, ◌≤◌, ◌^◌, arith, ltb, ltb-true, ltb-false, ℤ, pos, negsuc}
+use Rattle.base.proofs.Prelude.{◌≡◌, refl, cond, Bool, true, false, ℕ, suc, ◌+◌, ◌-◌, ◌≤◌, arith, ltb, ℤ, pos, negsuc}
 use lib.IntN.{sub_ℕ, ◌+ℤ◌}
 use lib.Signed.{mag}
 use mir.Facts.{to_z-of_z}

@@ -110,11 +110,11 @@ setting_refusal a b c d o = refusal (reading built_in 5 [] (as_any_call (SetLimi
 -- each by its sentence
 pub record Examples : Type 0 where
   -- 'Each firing logs 65 or 66 in line order; after all four lines g is tried once if a line fired over ..'
-  pub three_over : codes (account_from workshop three_over) ≡ 65 ∷ 65 ∷ 65 ∷ 64 ∷ []
+  pub three_over_lem : codes (account_from workshop three_over) ≡ 65 ∷ 65 ∷ 65 ∷ 64 ∷ []
   pub three_over_opens : (account_from workshop three_over).switch ≡ 2
   pub three_over_letter : letter_from workshop [] (powers 200 101 0) ≡ G
   -- '.. h once if a line fired under and none remains exceeded': one remains
-  pub one_remains : codes (account_from workshop one_remains) ≡ 65 ∷ 65 ∷ 65 ∷ 64 ∷ 66 ∷ 66 ∷ []
+  pub one_remains_lem : codes (account_from workshop one_remains) ≡ 65 ∷ 65 ∷ 65 ∷ 64 ∷ 66 ∷ 66 ∷ []
   pub one_remains_open : (account_from workshop one_remains).switch ≡ 2
   pub one_remains_letter : letter_from workshop three_over (powers 200 0 0) ≡ None
   -- none remains
@@ -122,7 +122,7 @@ pub record Examples : Type 0 where
   pub none_remains_closes : (account_from workshop (one_remains ++ (powers 0 0 0 ∷ []))).switch ≡ 1
   pub none_remains_letter : letter_from workshop one_remains (powers 0 0 0) ≡ H
   -- one fires over while another fires under: g is tried, which from 2 moves nothing, and h is not
-  pub over_and_under : codes (account_from workshop over_and_under) ≡ 65 ∷ 64 ∷ 61 ∷ 65 ∷ 64 ∷ 66 ∷ 65 ∷ []
+  pub over_and_under_lem : codes (account_from workshop over_and_under) ≡ 65 ∷ 64 ∷ 61 ∷ 65 ∷ 64 ∷ 66 ∷ 65 ∷ []
   -- the same where the switch is closed again meanwhile, L1 being exceeded still (mode 4): g moves it, and h does not
   pub over_and_under_opens : codes (account_from (settings_with 4 100 100 100 250 1 1) closed_meanwhile) ≡ 65 ∷ 64 ∷ 63 ∷ 66 ∷ 65 ∷ 64 ∷ []
   pub over_and_under_letter : letter_from (settings_with 4 100 100 100 250 1 1) (powers 101 0 0 ∷ RemoteReconnect ∷ []) (powers 0 101 0) ≡ G

@@ -339,7 +339,7 @@ laws_of rows table =
       disconnect_holds = λ page f rs from.
           disconnect_holds rows table page f rs from.whole from.accepted from.settings_in_range from.calls_in_range;
       call_answer = λ page r bytes e i. answer_on rows table (from_page rows table page bytes e) r i;
-      call_page = λ page r bytes e i. page_on rows table (from_page rows table page bytes e) r i;
+      call_page_lem = λ page r bytes e i. page_on rows table (from_page rows table page bytes e) r i;
       fresh_refused = λ page f. refused_bytes rows (fresh_of f) page;
       call_refused = call_same rows;
       account_page_lem = λ page f rs whole e range. account_page_lem rows table page f rs whole e range;

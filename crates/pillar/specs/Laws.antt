@@ -58,7 +58,7 @@ pub record LawsOf (rows : List EventRow) : Type 0 where
   pub call_answer : (page : List ℕ) (r : Command) → Bytes page → (read_of rows page).answer ≡ Accepted → AllInRange (calls_in (r ∷ []))
       → call_number rows page r ≡ answer_number (next_of rows (read_of rows page).meter r).answer
   -- it leaves the page of the record that the machine hands back, accepted or refused
-  pub call_page : (page : List ℕ) (r : Command) → Bytes page → (read_of rows page).answer ≡ Accepted → AllInRange (calls_in (r ∷ []))
+  pub call_page_lem : (page : List ℕ) (r : Command) → Bytes page → (read_of rows page).answer ≡ Accepted → AllInRange (calls_in (r ∷ []))
       → call_page rows page r ≡ page_of (next_of rows (read_of rows page).meter r).meter
   -- on any number but 0 every byte stays
   pub fresh_refused : (page : List ℕ) (f : Fresh) → (fresh_number rows page f ≡ 0 → ⊥) → fresh_page rows page f ≡ page

@@ -58,7 +58,7 @@ letter_of_named rows f calls (c ∷ cs) = letter rows f calls c
 -- of `pillar_request`, and of it among calls of `pillar_call`
 pub record RequestLawsOf (rows : List EventRow) : Type 0 where
   -- 21, then the reader's 9, 10 and 11, then 20, else 0
-  pub request_number : (page s buffer : List ℕ) → Bytes page → Bytes s
+  pub request_number_lem : (page s buffer : List ℕ) → Bytes page → Bytes s
       → request_number rows page s buffer ≡ cond (ltb (length buffer) 32) 21 (number_or (read_of rows page).answer (cond (is_whole (request_in s)) 0 20))
   -- on any number but 0 every byte of page and buffer stays, and there is no response and no letter
   pub request_refused : (page s buffer : List ℕ) → Bytes page → Bytes s → (request_number rows page s buffer ≡ 0 → ⊥)

@@ -9,7 +9,7 @@ use Rattle.registers.specs.declared.Register.{Register}
 use Rattle.registers.specs.declared.Alarms.{Alarms}
 use Rattle.registers.specs.Register.{raised, cleared}
 use Rattle.registers.specs.Alarms.{counting, alarms_filtered, sound_alarms}
-use Rattle.registers.specs.Laws.{AlarmLawsOf, AlarmLaws}
+use Rattle.registers.specs.Laws.{AlarmLaws}
 
 pub sound_count : (a : Alarms) → sound_alarms a ≡ true → a.count ≡ bit_count a.register.bits
 unfolding sound_alarms

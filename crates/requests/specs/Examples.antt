@@ -4,7 +4,6 @@ use Rattle.requests.specs.declared.Data.TheVariants.{Boolean, DoubleLong, Double
 use Rattle.requests.specs.declared.Descriptor.{Descriptor}
 use Rattle.requests.specs.declared.OptionalData.TheVariants.{Absent, Present}
 use Rattle.requests.specs.declared.Request.TheVariants.{Get, Set, Action}
-use Rattle.requests.specs.declared.Parsed.{Parsed}
 use Rattle.requests.specs.declared.Parsed.TheVariants.{Ok, NotWhole}
 use Rattle.requests.specs.Requests.{request_in}
 

@@ -1,7 +1,6 @@
 -- 'GET, SET and ACTION normal requests of the Green Book, unciphered, without selective access' (document 02, A9): their bytes, and the reading of bytes.
-use Rattle.std.specs.Prelude.{◌≡◌, Bool, ◌&&◌, cond, List, [], ◌∷◌, ◌++◌, ℕ, ◌<◌, eqb, ltb, length}
-use Rattle.codec.specs.BigEndian.{be}
-use Rattle.codec.specs.Format.{Format, num_at, num, ◌⊗◌}
+use Rattle.std.specs.Prelude.{Bool, ◌&&◌, cond, List, ◌++◌, ℕ, ◌<◌, eqb, ltb, length}
+use Rattle.codec.specs.Format.{Format, num, ◌⊗◌}
 use Rattle.requests.specs.declared.Data.{Data}
 use Rattle.requests.specs.declared.Data.TheVariants.{Boolean, DoubleLong, DoubleLongUnsigned, Integer, Enum}
 use Rattle.requests.specs.declared.OptionalData.{OptionalData}

@@ -2,7 +2,6 @@
 use Rattle.std.specs.Prelude.{Bool, true, false, List, ◌++◌, ℕ}
 use Rattle.codec.specs.BigEndian.{be}
 use Rattle.codec.specs.Format.{Format, num, ◌⊗◌}
-use Rattle.requests.specs.declared.Data.{Data}
 use Rattle.requests.specs.Requests.{data_bytes}
 use Rattle.responses.specs.declared.AccessResult.{AccessResult}
 use Rattle.responses.specs.declared.AccessResult.TheVariants.{Success, ReadWriteDenied, ObjectUndefined, TypeUnmatched}

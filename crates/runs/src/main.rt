@@ -2,87 +2,98 @@
 // records, and the page that they leave, an area to a line.
 #![tactic(auto)]
 
-use libc::STDOUT_FILENO;
 use replay::Replayed;
+use std::env::{Env, FillError};
+use std::io::Read;
+use std::rt::Files;
+use std::{fs, io, str};
 
-fn print(text: &[u8]) {
-    io::write_all(STDOUT_FILENO, text);
+fn print(rt: &impl Print, text: &[u8]) -> io::Result<()> {
+    rt.write_all(text)
 }
 
-fn end_line() {
-    print(b"\n");
+fn end_line(rt: &impl Print) -> io::Result<()> {
+    print(rt, b"\n")
 }
 
-fn print_byte(byte: u8) {
-    io::print_hex(STDOUT_FILENO, byte as u64, 2);
+fn print_byte(rt: &impl Print, byte: u8) -> io::Result<()> {
+    print!(rt; "{byte:02x}")
 }
 
 // Writes the bytes of an area as one line of hexadecimal digits.
-fn print_area(area: &[u8]) {
-    let mut i = 0;
-    while i < area.len() {
-        print_byte(area[i]);
-        i += 1;
+fn print_area(rt: &impl Print, area: &[u8]) -> io::Result<()> {
+    for byte in area {
+        print_byte(rt, *byte)?;
     }
-    end_line();
+    end_line(rt)
 }
 
 // The directory, and the nine areas.
-fn print_page(page: [u8; 599]) {
-    print_area(&page[0..36]);
-    print_area(&page[36..42]);
-    print_area(&page[42..59]);
-    print_area(&page[59..63]);
-    print_area(&page[63..72]);
-    print_area(&page[72..80]);
-    print_area(&page[80..241]);
-    print_area(&page[241..402]);
-    print_area(&page[402..563]);
-    print_area(&page[563..599]);
+fn print_page(rt: &impl Print, page: [u8; 599]) -> io::Result<()> {
+    print_area(rt, &page[0..36])?;
+    print_area(rt, &page[36..42])?;
+    print_area(rt, &page[42..59])?;
+    print_area(rt, &page[59..63])?;
+    print_area(rt, &page[63..72])?;
+    print_area(rt, &page[72..80])?;
+    print_area(rt, &page[80..241])?;
+    print_area(rt, &page[241..402])?;
+    print_area(rt, &page[402..563])?;
+    print_area(rt, &page[563..599])
 }
 
 // The page of the whole file, or that there is none. A file that does not fit the buffer counts as cut:
 // 65,536 is no multiple of a record's 21 bytes.
-fn print_last_page(file: i32) {
-    let mut records = io::large_buffer();
+fn print_last_page(rt: &impl Print, file: &mut impl Read) -> io::Result<()> {
+    let mut records = [0u8; 65536];
     let mut page = [0u8; 599];
-    let got = io::read_full(file, &mut records);
+    let got = listing::reading::read_part(file, &mut records).count;
     let table = tables::built_in();
     let replayed = replay::replay(&table, &records[..got], &mut page);
     let Replayed::Written = replayed else {
-        print(b"no page\n");
-        return;
+        return print(rt, b"no page\n");
     };
-    print_page(page);
+    print_page(rt, page)
+}
+
+// Opens a file for reading. std opens none whose name is not UTF-8: it counts as missing.
+fn open<R: Files>(rt: &R, name: &[u8]) -> Option<R::File> {
+    let path = str::from_utf8(name).ok()?;
+    fs::open(rt, path).ok()
 }
 
 // The file is opened twice: the listing reads it block by block, the replay as a whole.
-fn print_run(name: &[u8]) {
-    print(name);
-    end_line();
-    let file = os::open_read(name);
-    if file < 0 {
-        print(b"missing\n");
-        return;
-    }
-    listing::print_listing(file, STDOUT_FILENO);
-    libc::close(file);
-    let again = os::open_read(name);
-    print_last_page(again);
-    libc::close(again);
+fn print_run<R: Files + Print>(rt: &R, name: &[u8]) -> io::Result<()> {
+    print(rt, name)?;
+    end_line(rt)?;
+    let Some(mut file) = open(rt, name) else {
+        return print(rt, b"missing\n");
+    };
+    listing::print_listing(&mut file, &mut io::writer(rt));
+    let Some(mut again) = open(rt, name) else {
+        return print(rt, b"no page\n");
+    };
+    print_last_page(rt, &mut again)
 }
 
-fn print_argument(i: usize) {
-    let mut name = io::buffer();
-    let length = os::arg(i, &mut name);
-    print_run(&name[..length]);
+// Prints the run of an argument, and answers whether there is such an argument. One that does not fit
+// the buffer is no file's name, and stands for an empty one.
+fn print_argument<R: Env + Files + Print>(rt: &R, i: usize) -> io::Result<bool> {
+    let mut name = [0u8; 4096];
+    let length = match rt.arg(i, &mut name) {
+        Ok(length) => length,
+        Err(FillError::TooLong) => 0,
+        Err(FillError::NotPresent) => return Ok(false),
+    };
+    print_run(rt, &name[..length])?;
+    Ok(true)
 }
 
-fn main() {
-    let count = os::arg_count();
-    let mut i = 1;
-    while i < count {
-        print_argument(i);
-        i += 1;
+fn main(rt: HostRuntime) -> io::Result<()> {
+    for i in 1..usize::MAX {
+        if !print_argument(&rt, i)? {
+            break;
+        }
     }
+    Ok(())
 }

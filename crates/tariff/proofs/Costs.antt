@@ -1,11 +1,9 @@
 -- A charge after some rates, and what the tests say of each rate.
-use Rattle.base.proofs.Prelude.{◌≡◌, refl, ap, ◌∙◌, true, List, ℕ, zero, suc, ◌+◌, ◌*◌, ◌/◌, ◌%◌, ◌<◌, ◌≤◌, add_assoc, add-one, arith, leb, ltb, leb-true, ltb-true}
+use Rattle.base.proofs.Prelude.{◌≡◌, ap, ◌∙◌, true, List, ℕ, suc, ◌+◌, ◌*◌, ◌/◌, ◌%◌, ◌<◌, ◌≤◌, add_assoc, arith, leb, ltb, leb-true, ltb-true}
 use Rattle.base.proofs.Prelude.{and_left, and_right}
 use Rattle.base.proofs.Below.{below_at}
 use native.Mathlib.Nat.{mul-le-mul}
 use Rattle.energy.specs.declared.Energy.{Energy}
-use Rattle.energy.specs.Energy.{amount_of}
-use Rattle.tariff.specs.declared.Charge.{Charge}
 use Rattle.tariff.specs.Charges.{price_at, import_at, cost, sum_below, costs, charge_of, with_rate}
 use Rattle.tariff.specs.Bills.{is_price, is_import, are_prices, are_imports}
 

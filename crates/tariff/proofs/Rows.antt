@@ -1,5 +1,5 @@
 -- The laws of bills: one induction over the rate number, one over the row.
-use Rattle.base.proofs.Prelude.{◌≡◌, refl, sym, ap, ap₂, ◌∙◌, Bool, true, false, not, cond, List, [], ◌∷◌, ◌++◌, map, ℕ, zero, suc, ◌+◌, ◌*◌, ◌/◌, ◌%◌, ◌<◌}
+use Rattle.base.proofs.Prelude.{◌≡◌, refl, sym, ap, ap₂, ◌∙◌, Bool, true, false, not, cond, List, [], ◌∷◌, map, ℕ, zero, suc, ◌+◌, ◌*◌, ◌/◌, ◌%◌, ◌<◌}
 use Rattle.base.proofs.Prelude.{arith, leb, leb-false, get_or, zero-add, List·getD-map}
 use native.Mathlib.Nat.{mul-add, mul-zero}
 use lib.IntN.{ℤ}
@@ -9,11 +9,9 @@ use Rattle.energy.specs.declared.Joined.{Joined}
 use Rattle.energy.specs.declared.Joined.TheVariants as one
 use Rattle.energy.specs.Energy.{energy_of, amount_of}
 use Rattle.energy.specs.Days.{total, day_of}
-use Rattle.energy.specs.Joins.{joined}
 use Rattle.energy.proofs.Sums.{total_append}
 use Rattle.energy.proofs.Joins.{amount_of_lem, sum_exact}
 use Rattle.tariff.specs.declared.Charge.{Charge}
-use Rattle.tariff.specs.declared.Billed.{Billed}
 use Rattle.tariff.specs.declared.Billed.TheVariants.{Accepted, Refused}
 use Rattle.tariff.specs.Charges.{price_at, import_at, sum_below, costs, charge_of, with_rate}
 use Rattle.tariff.specs.Bills.{are_prices, are_imports, billed}
@@ -130,7 +128,7 @@ samples_amount (xss ∷ rest) k =
 
 pub laws : Laws
 laws = record {
-  after_rates = λ k rest ps es h. rw (after k rest ps es h) (exactly (rest + costs k ps es));
+  after_any_rates = λ k rest ps es h. rw (after k rest ps es h) (exactly (rest + costs k ps es));
   by_rates = by_rates;
   one_bill = accepted;
   row = row;

@@ -61,7 +61,7 @@ samples_at (xss ∷ rest) k = get_or xss k [] ++ samples_at rest k
 
 pub record Laws : Type 0 where
   -- 'The fact is shown over the rate number': after any number of rates, each reduced at once, nothing is lost
-  pub after_rates : (k rest : ℕ) (ps : List ℕ) (es : List Energy) → rest < 3600000
+  pub after_any_rates : (k rest : ℕ) (ps : List ℕ) (es : List Energy) → rest < 3600000
       → ExactCharge (after_rates k rest ps es).cents (after_rates k rest ps es).rest (rest + charged k ps (λ j. amount_of (import_at es j)))
   -- and so is a bill made ('The fact is shown over the rate number'): cents and rest of an accepted one are those after the four rates, each with its
   -- own price and its own import

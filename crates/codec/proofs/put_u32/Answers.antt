@@ -1,0 +1,7 @@
+use Rattle.codec.proofs.Stores.{sets_halves}
+use Rattle.codec.proofs.put_u32.Goals as goal
+
+pub returns : goal.returns
+returns c =
+    let a = c.args in
+    cc (sets_halves 2 2 a.v a.out.now a.at)

@@ -1,0 +1,7 @@
+use Rattle.requests.proofs.Bytes.{descriptor_bytes}
+use Rattle.requests.proofs.described.descriptor_in.Goals as goal
+
+pub returns : goal.returns
+returns c =
+    rw (c.join_name-name.ensures, c.u32_at-low.ensures, c.get_u16-high.ensures, c.get_u16-class.ensures)
+    (descriptor_bytes _)

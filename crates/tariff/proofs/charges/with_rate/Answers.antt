@@ -1,0 +1,20 @@
+use Rattle.base.proofs.Prelude.{refl, ◌≤◌, ◌+◌, ◌*◌, arith}
+use Rattle.tariff.proofs.Costs.{cost_most}
+use Rattle.tariff.proofs.charges.with_rate.Goals as goal
+use Rattle.tariff.proofs.charges.with_rate.Goals.{Start}
+
+-- the rate's own cost is bounded
+most : (c : Start) → c.args.price * (3600 * c.args.import.watthours + c.args.import.wattseconds) ≤ 7730941136399000000
+most c = cost_most c.args.price c.args.import.watthours c.args.import.wattseconds c.requires.1.0 c.requires.1.1.0 c.requires.1.1.1
+
+pub overflow_mul-parts : goal.overflow_mul-parts
+overflow_mul-parts c = record { fits = omega (arith, most c.before.before.before) }
+
+pub overflow_add-parts : goal.overflow_add-parts
+overflow_add-parts c = record { fits = omega (arith, most c.before.before.before) }
+
+pub overflow_add-cents : goal.overflow_add-cents
+overflow_add-cents c = record { fits = omega (arith, most c.before.before.before.before) }
+
+pub returns : goal.returns
+returns c = (refl, omega (arith, most c.before.before.before.before))
