@@ -21,20 +21,20 @@ use Rattle.calls.specs.contracts.Letter as letters
 use Rattle.history.specs.Effects.{remote_disconnect, remote_reconnect, manual_disconnect, manual_reconnect, alarms, errors, AnyCall, sample, request, set_mode}
 use Rattle.history.specs.Effects.{set_limiter, set_clock, event, set_filter, clear_bits, clear_log, script, set_groups, set_profile}
 use Rattle.machine.specs.Values.{Values, with_limiters}
-use Rattle.machine.specs.Machine.{Change, Result, refusing, making, result, moving, decided, answering, armed_by, occurring, request_result, mode_result}
+use Rattle.machine.specs.Machine.{Result, refusing, making, result, moving, decided, answering, armed_by, occurring, request_result, mode_result}
 use Rattle.machine.specs.Machine.{event_result, clear_log_result, script_result, owing, lettered, line_now, settings_each, limiter_result}
 use Rattle.machine.specs.Settings.{limits_answer}
 use Rattle.status.specs.Status.{status_values, status_from}
 use Rattle.status.specs.declared.StatusStep.{StatusStep}
 use Rattle.status.specs.Step.{in_places, status_step_for, status_step_of}
-use Rattle.status.specs.Laws.{NoLimiter, change_with, result_with}
+use Rattle.status.specs.Laws.{NoLimiter, result_with}
 use Rattle.status.proofs.Limiters.{laws}
 use Rattle.phases_steps.specs.declared.Limiters.{Limiters}
 use Rattle.phases_steps.specs.declared.ThreePhaseScalars.{ThreePhaseScalars}
 use Rattle.phases_steps.specs.declared.ThreePhaseStep.{ThreePhaseStep}
 use Rattle.phases_steps.specs.Scalars.{limiters_in, limiters_from, three_phase_values}
 use Rattle.phases_steps.specs.Laws.{Laws}
-use Rattle.phases_steps.specs.Step.{in_five_places, widened, step_with_limiters, three_phase_step_for, three_phase_step_of}
+use Rattle.phases_steps.specs.Step.{in_five_places, widened, step_with_limiters, three_phase_step_of}
 
 -- ---- four places and one more are five, of four lines at most
 widened_places : (f : Line → ℕ) (xs : List Line) → length xs ≤ 4 → widened (in_places (map f xs)) ≡ in_five_places (map f xs)
@@ -75,10 +75,13 @@ occurring_short v (some r) = omega arith
 
 short : (table : List EventRow) (v : Values) (c : AnyCall) → NoLimiter c → Short (result table v c)
 unfolding mode_result event_result clear_log_result script_result
+short table v (sample _) h = elim h [ ]
 short table v (request remote_disconnect) h = request_short v _
 short table v (request remote_reconnect) h = request_short v _
 short table v (request manual_disconnect) h = request_short v _
+short table v (request manual_reconnect) h = elim h [ ]
 short table v (set_mode n) h = either (leb n 6) _ _ (moving_short _ (mode_decision n v.control.state)) tt
+short table v (set_limiter _ _ _) h = elim h [ ]
 short table v (set_clock n) h = omega arith
 short table v (event c) h = occurring_short v (lookup table c)
 short table v (set_filter alarms n) h = omega arith
@@ -88,6 +91,8 @@ short table v (clear_bits errors n) h = omega arith
 short table v (clear_log n) h = either (is_log n) _ _ (omega arith) tt
 short table v (script n) h =
     either (eqb n 1) _ _ (request_short v RemoteDisconnect) (either (eqb n 2) _ _ (request_short v RemoteReconnect) tt)
+short table v (set_groups _ _) h = elim h [ ]
+short table v (set_profile _) h = elim h [ ]
 
 -- ---- such a call, by the status's step
 pub left_step : (table : List EventRow) (s : ThreePhaseScalars) (c : AnyCall) → NoLimiter c

@@ -1,5 +1,5 @@
 -- Four thresholds, of which one is negative or none.
-use Rattle.base.proofs.Prelude.{◌≡◌, refl, sym, ap, ◌∙◌, Bool, true, false, not, ◌||◌, ◌&&◌, ℤ, pos, negsuc, arith, le-leb, le-ltb, every}
+use Rattle.base.proofs.Prelude.{◌≡◌, refl, ap, ◌∙◌, Bool, true, false, not, ◌||◌, ◌&&◌, ℤ, pos, negsuc, arith, le-leb, le-ltb, every}
 use lib.Signed.{lt_z, le_z}
 use mir.Syntax.{w32}
 use mir.Val.{to_z, of_z, SFits}

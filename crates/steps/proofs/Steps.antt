@@ -13,23 +13,21 @@ use mir.Syntax.{w32}
 use types.Run.{OneOf, miss}
 use denote.Enum.Declared.{tag_of}
 use borrow.Author.Tests.{le-leb, le-ltb}
-use Rattle.base.specs.Tests.{within, any, gathered}
+use Rattle.base.specs.Tests.{within}
 use Rattle.events.specs.Table.{EventRow}
-use Rattle.control.specs.declared.Request.TheVariants.{ManualReconnect, LocalDisconnect, LocalReconnect}
+use Rattle.control.specs.declared.Request.TheVariants.{ManualReconnect}
 use Rattle.control.specs.declared.Decision.{Decision}
 use Rattle.control.specs.declared.Decision.TheVariants.{Move, Stay, NotListed}
 use Rattle.control.proofs.Answers.{answered, rows}
 use Rattle.limiter.specs.declared.Limiter.{Limiter}
-use Rattle.limiter.specs.declared.Watched.{Watched}
 use Rattle.limiter.specs.Limiter.{armed}
 use Rattle.calls.specs.declared.Letter.TheVariants.{E}
 use Rattle.calls.specs.contracts.Letter as letters
 use Rattle.calls.specs.declared.Answer.{Answer}
 use Rattle.history.specs.Effects.{AnyCall}
 use Rattle.machine.specs.Settings.{limits_answer}
-use Rattle.machine.specs.Values.{Values, with_limiters}
-use Rattle.machine.specs.Machine.{Result, refusing, making, result, owing, line_now, moving, decided, answering, armed_by, request_result}
-use Rattle.machine.specs.Machine.{after_sample}
+use Rattle.machine.specs.Values.{with_limiters}
+use Rattle.machine.specs.Machine.{Result, refusing, making, result, decided, answering, armed_by, request_result}
 use Rattle.status.specs.Status.{status_values}
 use Rattle.status.specs.declared.StatusStep.{StatusStep}
 use Rattle.status.specs.Step.{status_step_of}
@@ -38,7 +36,7 @@ use Rattle.status.proofs.Limiters.{laws}
 use Rattle.steps.specs.declared.Scalars.{Scalars}
 use Rattle.steps.specs.declared.Step.{Step}
 use Rattle.steps.specs.Scalars.{values_of, status_of}
-use Rattle.steps.specs.Step.{step_for, step_of, step_with}
+use Rattle.steps.specs.Step.{step_of, step_with}
 
 -- ---- a threshold, which is handed on as its bits: the test of its sign, and what a setting is answered
 sign : (z : ℤ) (b : Bool) → lt_z z (pos 0) ≡ b → le_z (pos 0) z ≡ not b

@@ -1,0 +1,6 @@
+use mathlib.Core.Path.{◌∙◌}
+use borrow.Author.Rules.{rules}
+use Rattle.meter.proofs.Meter.set_limiter.Goals as goal
+
+pub returns : goal.returns
+returns c = c.apply.ensures.value ∙ search rules

@@ -1,0 +1,34 @@
+use Prim.Native.Nat.{◌≤◌}
+use lib.ListN.{length}
+use Rattle.tables.specs.Index.{table_in}
+use Rattle.logs.specs.Layout.{arrays}
+use Rattle.status.proofs.Records.{part_length}
+use Rattle.steps.specs.Step.{result_of}
+use Rattle.meter.specs.State.{with_logs}
+use Rattle.meter.proofs.Tail.{lines_room, finished}
+use Rattle.meter.proofs.parts.carry_out.Goals as goal
+use Rattle.meter.proofs.parts.carry_out.Goals.{After-step-step}
+
+room : (c : After-step-step)
+    → (c.step-step.result.count ≤ length c.step-step.result.clocks) × (c.step-step.result.count ≤ length c.step-step.result.codes)
+room c = lines_room c.step-step.result c.args.scalars (result_of (table_in c.args.table.now) c.args.scalars c.args.call) c.step-step.ensures
+
+pub slice_bounds-line_clocks-end : goal.slice_bounds-line_clocks-end
+slice_bounds-line_clocks-end c = (room (goal.at.slice_bounds-line_clocks-end c).After-step-step).0
+
+pub slice_bounds-append_lines-end : goal.slice_bounds-append_lines-end
+slice_bounds-append_lines-end c = part_length _ _ (room (goal.at.slice_bounds-append_lines-end c).After-step-step).0
+
+pub slice_bounds-line_codes-end : goal.slice_bounds-line_codes-end
+slice_bounds-line_codes-end c = (room (goal.at.slice_bounds-line_codes-end c).After-step-step).1
+
+pub slice_bounds-append_lines-end-2 : goal.slice_bounds-append_lines-end-2
+slice_bounds-append_lines-end-2 c = part_length _ _ (room (goal.at.slice_bounds-append_lines-end-2 c).After-step-step).1
+
+pub returns : goal.returns
+returns c =
+    let a = c.args in
+    finished (table_in a.table.now) (with_logs a.scalars a.counts.now a.clocks.now a.codes.now) a.call c.step-step.result
+    (arrays c.clear_log.new.counts c.clear_log.new.clocks c.clear_log.new.codes)
+    (arrays c.append_lines.new.counts c.append_lines.new.clocks c.append_lines.new.codes)
+    c.step-step.ensures c.clear_log.ensures c.append_lines.ensures.codes_after
