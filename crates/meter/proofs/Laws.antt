@@ -3,7 +3,7 @@ use mathlib.Core.Path.{◌≡◌}
 use mathlib.Core.Bool.{true}
 use mathlib.Core.List.{List}
 use Rattle.base.specs.Tests.{every}
-use Rattle.events.specs.Table.{EventRow, built_in, lawful}
+use Rattle.events.specs.Table.{EventRow, lawful}
 use Rattle.events.proofs.Rule.{built_in_lawful}
 use Rattle.meter.specs.Laws.{LawsOf, Laws}
 use Rattle.meter.proofs.Values.{record_of_state, state_of_record}

@@ -7,7 +7,7 @@ use lib.ListN.{length}
 use Rattle.base.proofs.Bools.{and_left, and_right}
 use Rattle.events.specs.Table.{EventRow}
 use Rattle.logs.specs.Lists.{sound_lists}
-use Rattle.logs.specs.Layout.{Sized, laid, sound_logs}
+use Rattle.logs.specs.Layout.{Sized, sound_logs}
 use Rattle.logs.proofs.Places.{Short}
 use Rattle.logs.proofs.Sized.{laid_sized}
 use Rattle.logs.proofs.Read.{laid_lists}
