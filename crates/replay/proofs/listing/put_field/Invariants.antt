@@ -1,4 +1,3 @@
-use Prim.Native.Nat.{◌-◌}
 use Rattle.replay.proofs.Stores.{Storing}
 use Rattle.replay.proofs.listing.put_field.Given as goal
 

@@ -1,6 +1,5 @@
 use mathlib.Core.Path.{◌≡◌, refl, sym, ◌∙◌}
 use mathlib.Core.Bool.{true}
-use Prim.Native.Nat.{◌-◌}
 use native.Mathlib.Omega.{arith}
 use borrow.Author.Rules.{rules}
 use Rattle.tables.specs.Index.{table_in}
@@ -28,12 +27,6 @@ pub loop-i-init : goal.loop-i-init
 loop-i-init c =
     ((sized (goal.at.loop-i-init c).Start, rw c.scalars-scalars.ensures (before_sound (goal.at.loop-i-init c).Else-not-sound)), refl)
 
-pub overflow_mul-i : goal.overflow_mul-i
-overflow_mul-i c = search rules
-
-pub overflow_step-i : goal.overflow_step-i
-overflow_step-i c = omega (arith, (mul_whole_record_at (goal.at.overflow_step-i c).In-loop-i).fits)
-
 pub loop-i-preserved : goal.loop-i-preserved
 loop-i-preserved c =
     let call = c.command_sound-answered in
@@ -42,12 +35,12 @@ loop-i-preserved c =
     let m = with_logs l.scalars l.counts l.clocks l.codes in
     let k =
     next_turn (table_in table) c.args.records.now l.i m c.whole_record_at-record.result
-    (outcome_of call.result call.new.1.1.0 call.new.1.1.1.0 call.new.1.1.1.1.0)
+    (outcome_of call.result call.new.counts call.new.clocks call.new.codes)
     c.loop-i-test.true
     (table_lawful table)
     c.whole_record_at-record.ensures
     (call.ensures ∙ (laws_of (table_in table) (table_lawful table)).command_in_parts m _ l.invariant.0.0 l.invariant.0.1)
-    (λ i. omega (arith, c.shared_slice_known-1.given i))
+    (λ i. omega (arith, c.type_inv.records i))
     l.invariant.0 in
     (k.0, k.1 ∙ l.invariant.1)
 
