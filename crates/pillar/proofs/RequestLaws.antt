@@ -293,7 +293,7 @@ laws_of : (rows : List EventRow) → every lawful rows ≡ true → RequestLawsO
 unfolding request_buffer request_length request_letter
 laws_of rows table =
     record {
-      request_number = number rows table;
+      request_number_lem = number rows table;
       request_refused = refused rows table;
       request_served = λ page s l bytes b e.
           let k = from_page rows table page bytes e in
