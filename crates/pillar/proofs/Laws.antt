@@ -55,7 +55,7 @@ use Rattle.pillar.specs.Interface.{kept_number, kept_page, outcome_on, performed
 use Rattle.pillar.specs.Interface.{performed_letter, call_letter, check_number}
 use Rattle.page.specs.Demand3.{Trace}
 use Rattle.page.proofs.Traces as traces
-use Rattle.pillar.specs.Laws.{call_pages, LawsOf, Laws, page_from, FromFresh, CallsCompared}
+use Rattle.pillar.specs.Laws.{call_pages, LawsOf, Laws, FromFresh, CallsCompared}
 
 module _ (rows : List EventRow) where
   -- ---- a sound record goes to the writer

@@ -13,7 +13,6 @@ use Rattle.calls.specs.declared.Parsed.TheVariants.{Ok, NoKind}
 use Rattle.calls.specs.Calls.{call_of, letter_byte}
 use Rattle.requests.specs.Requests.{request_in}
 use Rattle.history.specs.OnePhase.{Fresh, account, letter}
-use Rattle.meter.specs.declared.Meter.{Meter}
 use Rattle.meter.specs.Settings.{SettingsInRange}
 use Rattle.meter.specs.Fresh.{fresh_of}
 use Rattle.page.specs.Layout.{size, page_of, read_of}

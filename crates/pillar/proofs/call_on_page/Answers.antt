@@ -5,7 +5,6 @@ use mathlib.Core.Bool.{true}
 use native.Mathlib.Omega.{arith}
 use borrow.Author.Rules.{rules}
 use mathlib.Core.List.{List}
-use Prim.Native.Nat.{ℕ}
 use Rattle.events.specs.Table.{EventRow}
 use Rattle.tables.specs.Index.{table_in}
 use Rattle.tables.proofs.Index.{table_lawful}

@@ -2,12 +2,8 @@ use borrow.Author.Tests.{not-true, not-false}
 use mathlib.Core.Path.{◌≡◌, ap, ◌∙◌}
 use mathlib.Core.Bool.{true}
 use native.Mathlib.Omega.{arith}
-use mathlib.Core.List.{List}
-use Prim.Native.Nat.{ℕ}
-use Rattle.events.specs.Table.{EventRow}
 use Rattle.tables.specs.Index.{table_in}
 use Rattle.tables.proofs.Index.{table_lawful}
-use Rattle.calls.specs.declared.Answer.TheVariants.{Accepted}
 use Rattle.meter.specs.Sound.{sound_meter}
 use Rattle.server.specs.declared.Served.{Served}
 use Rattle.pillar.proofs.Laws.{read_record}
