@@ -1,6 +1,6 @@
 /*
  * The switching core of the pillar meter, as C and C++ see it: the archive is
- * target/staticlib/libpillar.a, for x86-64, made by `rt staticlib pillar`. It
+ * target/staticlib/libpillar.a, for x86-64, made by `tools/archive pillar`. It
  * needs memcpy and memset, and nothing else. This header is C99 and C++11.
  *
  * A meter's state is its page of PILLAR_PAGE_SIZE bytes, which the caller
@@ -15,15 +15,14 @@
  * meter, which has a page of its own, four ('The three-phase meter' below); for the
  * harbour's office four, at the end of this header. Each answers 0, or the number
  * of a refusal. On a refusal every byte of the page is as it was. Each of the six
- * is proved to answer and to write what crates/interface/specs/Interface.antt says
- * (of pillar_table, crates/tables/specs/Bytes.antt; of pillar_replay,
+ * is proved to answer and to write what crates/pillar/specs/Interface.antt says (of
+ * pillar_table, crates/tables/specs/Bytes.antt; of pillar_replay,
  * crates/replay/specs/Replay.antt; of pillar_request,
- * crates/request_interface/specs/Request.antt), and each of the four for the
- * three-phase meter what crates/phases_interface/specs/Interface.antt says (of
- * three_phase_replay, crates/phases_replay/specs/Replay.antt), for every length and
- * every number. The rest of this header, names, offsets and inline functions, is not
- * proved: the gate compares it with what the archive writes and answers
- * (tests/header).
+ * crates/pillar/specs/Request.antt), and each of the four for the three-phase meter
+ * what crates/phases_interface/specs/Interface.antt says (of three_phase_replay,
+ * crates/phases_replay/specs/Replay.antt), for every length and every number. The rest
+ * of this header, names, offsets and inline functions, is not proved: the gate
+ * compares it with what the archive writes and answers (tests/header).
  *
  * The caller gives, for each pointer with a length, that many bytes that may be
  * read and, but for a const pointer, written. A `letter` is one byte that may be
@@ -1297,7 +1296,7 @@ static inline struct pillar_line three_phase_get_log_line(const uint8_t *page, u
  * the lowest. On a refusal nothing is written. What each is proved to answer and
  * to write, for every number, is said in crates/berths/specs/Allotments.antt,
  * crates/energy/specs/Days.antt and Joins.antt, and crates/tariff/specs/Bills.antt;
- * how numbers lie behind the pointers, in crates/office/specs/Energy.antt and
+ * how numbers lie behind the pointers, in crates/pillar/specs/Energy.antt and
  * Tariff.antt.
  *
  * What the pointers lend must not overlap.

@@ -1,5 +1,5 @@
 """What the tests of the archive share: how one is run and ends, and C programs that are built with the
-archive.  It comes first (rt staticlib pillar), and is in the folder PILLAR_LIB, else in target/staticlib."""
+archive.  It comes first (tools/archive pillar), and is in the folder PILLAR_LIB, else in target/staticlib."""
 import os
 import pathlib
 import subprocess
@@ -34,7 +34,7 @@ def written(command, given=b''):
 def build(source, program, compiler=('gcc', '-std=c99', *WARNINGS), include='include'):
     """Build a program of C with the archive."""
     if not os.access(ARCHIVE, os.R_OK):
-        raise Fault(f'no {ARCHIVE}: rt staticlib pillar makes it')
+        raise Fault(f'no {ARCHIVE}: tools/archive pillar makes it')
     written([*compiler, f'-I{include}', '-o', program, source, '-x', 'none', ARCHIVE])
 
 

@@ -3,7 +3,7 @@
  * interface (document 02, A10 to A12), then wrong input. It prints what
  * tools/harbour prints for the same texts of tools/examples, in its words.
  *
- *   rt staticlib pillar
+ *   tools/archive pillar
  *   gcc -std=c99 -Wall -Wextra -pedantic -Iinclude -o target/harbour_demo examples/c/harbour_demo.c target/staticlib/libpillar.a
  */
 #include "pillar.h"

@@ -3,7 +3,7 @@
  * one list, the letters of its moves, what the page then holds, an emergency
  * profile, how many alarms stand, a harbour's own event table, and wrong input.
  *
- *   rt staticlib pillar
+ *   tools/archive pillar
  *   gcc -std=c99 -Wall -Wextra -pedantic -Iinclude -o target/pillar_demo examples/c/pillar_demo.c target/staticlib/libpillar.a
  */
 #include "pillar.h"

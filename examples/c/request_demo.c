@@ -4,7 +4,7 @@
  * that moves the switch. Prints each answer in hexadecimal digits; what it prints
  * is compared with request_demo.txt.
  *
- *   rt staticlib pillar
+ *   tools/archive pillar
  *   gcc -std=c99 -Wall -Wextra -pedantic -Iinclude -o target/request_demo examples/c/request_demo.c target/staticlib/libpillar.a
  */
 #include "pillar.h"

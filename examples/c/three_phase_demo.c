@@ -4,7 +4,7 @@
  * stands, the lines of the limiter, log 3, the same calls as one list, and wrong
  * input. What it prints is compared with three_phase_demo.txt.
  *
- *   rt staticlib pillar
+ *   tools/archive pillar
  *   gcc -std=c99 -Wall -Wextra -pedantic -Iinclude -o target/three_phase_demo examples/c/three_phase_demo.c target/staticlib/libpillar.a
  */
 #include "pillar.h"

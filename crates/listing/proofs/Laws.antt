@@ -2,10 +2,9 @@
 use Rattle.base.proofs.Prelude.{◌≡◌, refl, ap, ◌∙◌, subst, Bool, true, false, ◌&&◌, cond, List, [], ◌∷◌, ◌++◌, append_assoc, append-nil, flat_map, ℕ, zero, suc}
 use Rattle.base.proofs.Prelude.{◌+◌, ◌*◌, ◌%◌, ◌<◌, ◌≤◌, arith, eqb, ltb, length, take, drop, length-append, length-take, length-drop, take-append-drop}
 use Rattle.base.proofs.Prelude.{take_all, lt-ltb, le-ltb, le-leb, lt-leb, eq-eqb, ne_eqb, ltb-true, ltb-false, eqb-true, by_test}
-use Rattle.events.specs.Table.{built_in}
 use Rattle.calls.specs.declared.Command.{Command}
 use Rattle.meter.specs.declared.Outcome.{Outcome}
-use Rattle.replay.specs.Replay.{record_length, first_in, records_from, start_of, meter_after}
+use Rattle.replay.specs.Replay.{record_length, first_in, records_from, start_of}
 use Rattle.replay.specs.Listing.{line_of}
 use Rattle.listing.specs.declared.Progress.{Progress}
 use Rattle.listing.specs.Lines.{shown, lines_from}

@@ -261,7 +261,7 @@ module _ (rows : List EventRow) (table : every lawful rows ≡ true) where
     from_record calls i =
         let sound = ((meter.laws).1 rows table).reached_sound f calls t i in
         let typed : ThreePhaseTyped (reached calls) = rw (((meter.laws).1 rows table).simulates f calls t i) (account_typed rows table f t calls i) in
-        record { reads = roundtrip.read-page rows (reached calls) typed sound; back = refl; sound = sound; sized = typed.logs }
+        record { reads = roundtrip.read_page rows (reached calls) typed sound; back = refl; sound = sound; sized = typed.logs }
 
     -- the pages of records behind some calls
     pages_from : (rs : List ThreePhaseCommand) (calls : List ThreePhaseCall) → AllThreePhaseInRange (three_phase_calls_in rs) → AllThreePhaseInRange calls
@@ -370,9 +370,9 @@ module _ (rows : List EventRow) (table : every lawful rows ≡ true) (page : Lis
       (three_phase_fresh_number rows page f ≡ three_phase_fresh_number built_in page f) × (three_phase_fresh_page rows page f ≡ three_phase_fresh_page built_in page f)
   fresh_same =
       let sound = fresh_sound rows table f range in
-      let built_in = fresh_sound built_in built_in_lawful f range in (
-        sound_answer rows (three_phase_fresh_of f) page sound ∙ sym (sound_answer built_in (three_phase_fresh_of f) page built_in),
-        sound_bytes rows (three_phase_fresh_of f) page sound ∙ sym (sound_bytes built_in (three_phase_fresh_of f) page built_in),
+      let fresh_built_in = fresh_sound built_in built_in_lawful f range in (
+        sound_answer rows (three_phase_fresh_of f) page sound ∙ sym (sound_answer built_in (three_phase_fresh_of f) page fresh_built_in),
+        sound_bytes rows (three_phase_fresh_of f) page sound ∙ sym (sound_bytes built_in (three_phase_fresh_of f) page fresh_built_in),
       )
 
 laws_of : (rows : List EventRow) → every lawful rows ≡ true → LawsOf rows

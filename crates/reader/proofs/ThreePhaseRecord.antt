@@ -1,6 +1,6 @@
 -- The record in the bytes of the three-phase meter's page: bytes that pass the reader's test hold thresholds that their fields can hold, and the record of
 -- bytes that do not is not sound; the scalars and the arrays of the logs, read apart, make the record, and their tests are its test.
-use Rattle.page.proofs.Common.{◌≡◌, refl, sym, ap, ◌∙◌, Bool, true, false, ◌&&◌, and-true, List, [], ◌∷◌, ℕ, ◌+◌, ◌≤◌, add_assoc, leb, leb-true, and_left}
+use Rattle.page.proofs.Common.{◌≡◌, refl, ap, ◌∙◌, Bool, true, false, ◌&&◌, and-true, List, [], ◌∷◌, ℕ, ◌+◌, ◌≤◌, add_assoc, leb, leb-true, and_left}
 use Rattle.page.proofs.Common.{and_right, every, every_first, every_rest, num_at, pos, is_threshold, sound_limiter, sound_arrays, sound_logs}
 use Rattle.events.specs.Table.{EventRow}
 use Rattle.registers.specs.Alarms.{sound_alarms}

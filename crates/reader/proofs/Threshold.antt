@@ -8,7 +8,6 @@ use Rattle.emergency.specs.declared.Emergency.{Emergency}
 use Rattle.emergency.specs.Emergency.{in_ranges, sound_emergency}
 use Rattle.emergency.proofs.Kept.{Which, empty, waits, runs, which, profile_part}
 use Rattle.limiter.specs.declared.Limiter.{Limiter}
-use Rattle.steps.specs.declared.Scalars.{Scalars}
 use Rattle.steps.proofs.Sound.{limiter_sound, emergency_sound}
 use Rattle.page.specs.Layout.{layout, start, meter_in, is_record, holds_sound}
 

@@ -166,7 +166,7 @@ module _ (rows : List EventRow) (m : Meter) where
   filter_back : (v : ℕ) → GivesBack rows m alarm_filter (DoubleLongUnsigned v) (DoubleLongUnsigned v)
   filter_back v =
       let c = call.SetAlarmFilter v in
-      gives_back rows m c alarm_filter (DoubleLongUnsigned v) (DoubleLongUnsigned v) ((of_record rows m).set-alarm-filter v)
+      gives_back rows m c alarm_filter (DoubleLongUnsigned v) (DoubleLongUnsigned v) ((of_record rows m).set_alarm_filter v)
       (λ k e i. (of_record rows (after rows m c k)).get_alarm_filter i ∙ only (λ k. GetData i (DoubleLongUnsigned k.values.alarms.register.filter)) _ k e)
 
   errors_back : (v : ℕ) → v < 4294967296 → GivesBack rows m errors (DoubleLongUnsigned v) (DoubleLongUnsigned (bit_and m.errors.bits v))
@@ -273,5 +273,5 @@ after_set rows m =
       under_denied = λ v q. under_denied rows m q v;
       errors_set = λ v q. by_call rows m q (call.ClearErrors (inverse v)) errors (DoubleLongUnsigned v) ((of_record rows m).set_errors v);
       alarms_set = λ v q. by_call rows m q (call.ClearAlarms (inverse v)) alarms (DoubleLongUnsigned v) ((of_record rows m).set_alarms v);
-      filter_set = λ v q. by_call rows m q (call.SetAlarmFilter v) alarm_filter (DoubleLongUnsigned v) ((of_record rows m).set-alarm-filter v);
+      filter_set = λ v q. by_call rows m q (call.SetAlarmFilter v) alarm_filter (DoubleLongUnsigned v) ((of_record rows m).set_alarm_filter v);
     }
