@@ -64,7 +64,7 @@ extern "C" {
  * and memset, and adds up the frames of the machine code. An inline function of this
  * header takes its own frame besides.
  */
-#define PILLAR_STACK_REQUEST 6656 /* pillar_request */
+#define PILLAR_STACK_REQUEST 10240 /* pillar_request */
 #define PILLAR_STACK 4608         /* every other function of the archive */
 
 /* ---- The page ------------------------------------------------------------
