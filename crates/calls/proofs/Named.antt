@@ -1,22 +1,28 @@
 -- The call that a kind names is of that kind, and the kinds from 1 to 17 name one.
+use Rattle.calls.specs.Calls.{ReadCall}
 use Rattle.base.proofs.Prelude.{◌≡◌, refl, sym, ◌∙◌, true, false, cond, false≢true, and-false, ℕ, suc, ◌≤◌, arith, eqb, lt-leb, eqb-true, eqb-false, within}
 use Rattle.base.proofs.Prelude.{by_test, ℤ, pos, negsuc, ◌-◌, lt-ltb, le-ltb, leb-true}
-use Rattle.calls.specs.declared.{Call.Call, Command.Command, Parsed.Parsed}
+use Rattle.calls.specs.declared.{Call.Call, Command.Command, CommandError.CommandError}
 use Rattle.calls.specs.declared.Call.TheVariants.{Sample, RemoteDisconnect, RemoteReconnect, ManualDisconnect, ManualReconnect, SetMode}
 use Rattle.calls.specs.declared.Call.TheVariants.{SetLimiter, SetClock, Event, SetAlarmFilter, SetErrorFilter, ClearAlarms, ClearErrors, ClearLog}
 use Rattle.calls.specs.declared.Call.TheVariants.{Script, SetGroups, SetProfile}
-use Rattle.calls.specs.declared.Parsed.TheVariants.{Ok, NoKind}
+use Rattle.calls.specs.declared.CommandError.TheVariants.{NoKind}
+use Rattle.std.specs.Prelude.{Ok, Err}
 use mathlib.Core.List.{[], ◌∷◌, map}
 use Rattle.calls.specs.Calls.{kind_of, signed_of, call_of, command_of, Signed, InRange}
 use Rattle.calls.specs.Laws.{bits_of, command_naming, Laws}
 
+-- a command names no call for one reason alone
+pub one_error : (e : CommandError) → e ≡ NoKind
+one_error NoKind = refl
+
 -- what was read of a kind: a call of that kind, which is one from 1 to 17, or none, and then it is none of them
-abbrev Read : ℕ → Parsed → Type 0
+abbrev Read : ℕ → ReadCall → Type 0
 Read k (Ok c) = (kind_of c ≡ k) × (within 1 17 k ≡ true)
-Read k NoKind = within 1 17 k ≡ false
+Read k (Err NoKind) = within 1 17 k ≡ false
 
 -- one kind of the list: it is this one, or a later one
-or_later : (k j : ℕ) (x : Call) (rest : Parsed) → kind_of x ≡ j → within 1 17 j ≡ true → (suc j ≤ k → Read k rest) → j ≤ k
+or_later : (k j : ℕ) (x : Call) (rest : ReadCall) → kind_of x ≡ j → within 1 17 j ≡ true → (suc j ≤ k → Read k rest) → j ≤ k
     → Read k (cond (eqb k j) (Ok x) rest)
 or_later k j x rest d w later h =
     by_test (eqb k j) (λ q. rw (q, eqb-true k j q) (d, w)) (λ q. rw q (later (omega (arith, eqb-false k j q))))
@@ -38,14 +44,14 @@ module _ (r : Command) where
   kind_named : (c : Call) → call_of r ≡ Ok c → kind_of c ≡ r.kind
   kind_named c e = (rw e at read).0
 
-  no_kind : within 1 17 r.kind ≡ false → call_of r ≡ NoKind
+  no_kind : within 1 17 r.kind ≡ false → call_of r ≡ Err NoKind
   no_kind out = go (call_of r) refl
     where
-      go : (p : Parsed) → call_of r ≡ p → p ≡ NoKind
+      go : (p : ReadCall) → call_of r ≡ p → p ≡ Err NoKind
       go (Ok c) e = absurd (false≢true (sym out ∙ (rw e at read).1))
-      go NoKind e = refl
+      go (Err NoKind) e = refl
 
-  some_kind : within 1 17 r.kind ≡ true → call_of r ≡ NoKind → ⊥
+  some_kind : within 1 17 r.kind ≡ true → call_of r ≡ Err NoKind → ⊥
   some_kind kind e = false≢true (sym (rw e at read) ∙ kind)
 
 -- two's complement gives every signed number of 32 bits back

@@ -1,5 +1,5 @@
 -- The calls: the fifteen of document 01, 'A call is one of fifteen kinds with its numbers', and kinds 16 and 17 of document 02, A3.
-use Rattle.std.specs.Prelude.{◌≡◌, ℕ, ◌-◌, ◌≤◌, true, cond, List, [], ◌∷◌, eqb, ltb, ℤ, pos, negsuc}
+use Rattle.std.specs.Prelude.{◌≡◌, ℕ, ◌-◌, ◌≤◌, true, cond, List, [], ◌∷◌, eqb, ltb, ℤ, pos, negsuc, Result, Ok, Err}
 use Rattle.std.specs.Int.Signed.{le_z}
 use Rattle.calls.specs.declared.Call.{Call}
 use Rattle.calls.specs.declared.Call.TheVariants.{Sample, RemoteDisconnect, RemoteReconnect, ManualDisconnect, ManualReconnect, SetMode}
@@ -10,8 +10,8 @@ use Rattle.calls.specs.declared.Answer.TheVariants.{Accepted, Refused}
 use Rattle.calls.specs.declared.Letter.{Letter}
 use Rattle.calls.specs.declared.Letter.TheVariants.{A, B, C, D, E, F, G, H, None}
 use Rattle.calls.specs.declared.Command.{Command}
-use Rattle.calls.specs.declared.Parsed.{Parsed}
-use Rattle.calls.specs.declared.Parsed.TheVariants.{Ok, NoKind}
+use Rattle.calls.specs.declared.CommandError.{CommandError}
+use Rattle.calls.specs.declared.CommandError.TheVariants.{NoKind}
 
 -- an answer's number: 'refusal or 0'
 abbrev pub answer_number : Answer → ℕ
@@ -58,10 +58,14 @@ signed_of n = cond (ltb n 2147483648) (pos n) (negsuc (4294967295 - n))
 abbrev pub command_of : ℕ → ℕ → ℕ → ℕ → ℕ → ℕ → Command
 command_of k n1 n2 n3 n4 n5 = record { kind = k; n1 = n1; n2 = n2; n3 = n3; n4 = n4; n5 = n5 }
 
+-- what a command is read as: the call that it names, or that it names none
+abbrev pub ReadCall : Type 0
+ReadCall = Result Call CommandError
+
 -- the call of a command's kind and five numbers, 'unused ones ignored'; document 02, A3: 'Kind 16 sets up to eight group ids (16 bits): a count, then the ids
 -- two to a number, high half first. Kind 17 takes an id, an emergency threshold, an activation clock and a duration in samples', and 'Refusal 13 now means not
 -- 1–17'
-unfoldable pub call_of : Command → Parsed
+unfoldable pub call_of : Command → ReadCall
 call_of r =
     let k = r.kind in
     cond (eqb k 1) (Ok (Sample (signed_of r.n1)))
@@ -81,7 +85,7 @@ call_of r =
     (cond (eqb k 15) (Ok (Script r.n1))
     (cond (eqb k 16) (Ok (SetGroups r.n1 r.n2 r.n3 r.n4 r.n5))
     (cond (eqb k 17) (Ok (SetProfile r.n1 (signed_of r.n2) r.n3 r.n4))
-    NoKind))))))))))))))))
+    (Err NoKind)))))))))))))))))
 
 -- a number of 32 bits
 abbrev pub Word : ℕ → Type 0

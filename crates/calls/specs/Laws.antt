@@ -1,5 +1,5 @@
 -- What holds of the reading of a command, and of the numbers of answers and letters: what a reader wants beside the definitions.
-use Rattle.std.specs.Prelude.{◌≡◌, ℕ, ◌-◌, true, false, [], ◌∷◌, map, ℤ, pos, negsuc}
+use Rattle.std.specs.Prelude.{◌≡◌, ℕ, ◌-◌, true, false, [], ◌∷◌, map, ℤ, pos, negsuc, Ok, Err}
 use Rattle.base.specs.Tests.{within}
 use Rattle.calls.specs.declared.Call.{Call}
 use Rattle.calls.specs.declared.Call.TheVariants.{Sample, RemoteDisconnect, RemoteReconnect, ManualDisconnect, ManualReconnect, SetMode}
@@ -8,7 +8,7 @@ use Rattle.calls.specs.declared.Call.TheVariants.{Script, SetGroups, SetProfile}
 use Rattle.calls.specs.declared.Answer.TheVariants.{Accepted, Refused}
 use Rattle.calls.specs.declared.Letter.TheVariants.{A, B, C, D, E, F, G, H, None}
 use Rattle.calls.specs.declared.Command.{Command}
-use Rattle.calls.specs.declared.Parsed.TheVariants.{Ok, NoKind}
+use Rattle.calls.specs.declared.CommandError.TheVariants.{NoKind}
 use Rattle.calls.specs.Calls.{answer_number, letter_byte, kind_of, signed_of, call_of, command_of, InRange}
 
 -- a signed number of 32 bits in two's complement
@@ -43,8 +43,8 @@ pub record Laws : Type 0 where
   -- each call is what its own kind and numbers name
   pub call_named : (c : Call) → InRange c → call_of (command_naming c) ≡ Ok c
   -- document 02, A3: 'Refusal 13 now means not 1–17': no other kind names a call, and each of these does
-  pub no_kind : (r : Command) → within 1 17 r.kind ≡ false → call_of r ≡ NoKind
-  pub some_kind : (r : Command) → within 1 17 r.kind ≡ true → call_of r ≡ NoKind → ⊥
+  pub no_kind : (r : Command) → within 1 17 r.kind ≡ false → call_of r ≡ Err NoKind
+  pub some_kind : (r : Command) → within 1 17 r.kind ≡ true → call_of r ≡ Err NoKind → ⊥
   -- '.. unused ones ignored', of the bench program's five numbers: a kind takes the first ones that it uses, in their order, whatever the others are
   pub unused_ignored :
       (a b c d e : ℕ)

@@ -55,19 +55,20 @@ impl Answer {
     }
 }
 
-// The move of the switch that a call made, by its letter in the switch table.
+// The move of the switch that a call made, by its letter in the switch table: the letter's byte in ASCII,
+// and 0 for none.
 #[derive(Clone, Copy)]
 pub enum Letter {
-    A,
-    B,
-    C,
-    D,
-    E,
-    F,
-    G,
-    H,
+    A = 97,
+    B = 98,
+    C = 99,
+    D = 100,
+    E = 101,
+    F = 102,
+    G = 103,
+    H = 104,
     // The call was refused, or moved nothing, or was the acceptance of mode 0.
-    None,
+    None = 0,
 }
 
 impl Letter {
@@ -75,17 +76,7 @@ impl Letter {
     pub fn byte(self) -> u8
         ensures { result ≡ letter_byte self }
     {
-        match self {
-            Letter::A => b'a',
-            Letter::B => b'b',
-            Letter::C => b'c',
-            Letter::D => b'd',
-            Letter::E => b'e',
-            Letter::F => b'f',
-            Letter::G => b'g',
-            Letter::H => b'h',
-            Letter::None => 0,
-        }
+        self as u8
     }
 }
 
@@ -100,21 +91,21 @@ pub struct Command {
     pub n5: u32,
 }
 
-// What a command names.
+// Why a command names no call.
 #[derive(Clone, Copy)]
-pub enum Parsed {
-    Ok(Call),
+pub enum CommandError {
+    // Its kind is none of the meter's: refusal 13.
     NoKind,
 }
+
+// What a command names.
+pub type Parsed = Result<Call, CommandError>;
 
 // A number of 32 bits as two's complement.
 pub fn signed(n: u32) -> i32
     ensures { result ≡ signed_of n }
 {
-    if n < 2147483648 {
-        return n as i32;
-    }
-    !((4294967295 - n) as i32)
+    n.cast_signed()
 }
 
 // All five numbers of a command are taken; a kind ignores those that it has no use for.
@@ -122,27 +113,24 @@ pub fn read_kind(command: Command) -> Parsed
     ensures value { result ≡ call_of command }
     ensures laws { Laws }
 {
-    let kind = command.kind;
-    match kind {
-        1 => Parsed::Ok(Call::Sample(signed(command.n1))),
-        2 => Parsed::Ok(Call::RemoteDisconnect),
-        3 => Parsed::Ok(Call::RemoteReconnect),
-        4 => Parsed::Ok(Call::ManualDisconnect),
-        5 => Parsed::Ok(Call::ManualReconnect),
-        6 => Parsed::Ok(Call::SetMode(command.n1)),
-        7 => Parsed::Ok(Call::SetLimiter(signed(command.n1), command.n2, command.n3)),
-        8 => Parsed::Ok(Call::SetClock(command.n1)),
-        9 => Parsed::Ok(Call::Event(command.n1)),
-        10 => Parsed::Ok(Call::SetAlarmFilter(command.n1)),
-        11 => Parsed::Ok(Call::SetErrorFilter(command.n1)),
-        12 => Parsed::Ok(Call::ClearAlarms(command.n1)),
-        13 => Parsed::Ok(Call::ClearErrors(command.n1)),
-        14 => Parsed::Ok(Call::ClearLog(command.n1)),
-        15 => Parsed::Ok(Call::Script(command.n1)),
-        16 => Parsed::Ok(Call::SetGroups(
-            command.n1, command.n2, command.n3, command.n4, command.n5,
-        )),
-        17 => Parsed::Ok(Call::SetProfile(command.n1, signed(command.n2), command.n3, command.n4)),
-        _ => Parsed::NoKind,
+    match command.kind {
+        1 => Ok(Call::Sample(signed(command.n1))),
+        2 => Ok(Call::RemoteDisconnect),
+        3 => Ok(Call::RemoteReconnect),
+        4 => Ok(Call::ManualDisconnect),
+        5 => Ok(Call::ManualReconnect),
+        6 => Ok(Call::SetMode(command.n1)),
+        7 => Ok(Call::SetLimiter(signed(command.n1), command.n2, command.n3)),
+        8 => Ok(Call::SetClock(command.n1)),
+        9 => Ok(Call::Event(command.n1)),
+        10 => Ok(Call::SetAlarmFilter(command.n1)),
+        11 => Ok(Call::SetErrorFilter(command.n1)),
+        12 => Ok(Call::ClearAlarms(command.n1)),
+        13 => Ok(Call::ClearErrors(command.n1)),
+        14 => Ok(Call::ClearLog(command.n1)),
+        15 => Ok(Call::Script(command.n1)),
+        16 => Ok(Call::SetGroups(command.n1, command.n2, command.n3, command.n4, command.n5)),
+        17 => Ok(Call::SetProfile(command.n1, signed(command.n2), command.n3, command.n4)),
+        _ => Err(CommandError::NoKind),
     }
 }

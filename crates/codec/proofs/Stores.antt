@@ -1,10 +1,10 @@
 -- Stores that follow each other, and loops that write or read one value more at each turn.
-use Rattle.base.proofs.Prelude.{◌≡◌, sym, ap, ◌∙◌, List, [], ◌∷◌, ◌++◌, append_assoc, append-nil, flat_map, ℕ, zero, suc, ◌+◌, ◌*◌, ◌/◌, ◌%◌, ◌^◌, ◌<◌, ◌≤◌}
+use Rattle.base.proofs.Prelude.{◌≡◌, sym, ap, ◌∙◌, List, [], ◌∷◌, ◌++◌, append_assoc, append-nil, flat_map, ℕ, zero, suc, ◌+◌, ◌*◌, ◌<◌, ◌≤◌}
 use Rattle.base.proofs.Prelude.{zero-add, add-zero, suc-add, add-suc, zero-mul, suc-mul, add-one, arith, length, get_or, set, take, drop, length-append}
 use Rattle.base.proofs.Prelude.{length-drop, sets, sets-eq, drop-drop, length-take-le, take-append_seam, drop-append-add}
-use Rattle.codec.specs.{BigEndian.be, Lawful.Lawful}
+use Rattle.codec.specs.{Lawful.Lawful}
 use Rattle.codec.specs.Format.{Format, encs, decs, AllHold}
-use Rattle.codec.proofs.{Numbers.length_be, Numbers.be_halves, Formats.length_encs}
+use Rattle.codec.proofs.{Formats.length_encs}
 
 -- ---- stores
 
@@ -15,11 +15,6 @@ sets_cat l i (x ∷ xs) ys = rw (add-suc, ← suc-add) (sets_cat (set l i x) (su
 
 pub sets_then : (l : List ℕ) (i : ℕ) (xs ys : List ℕ) (j : ℕ) → j ≡ i + length xs → sets (sets l i xs) j ys ≡ sets l i (xs ++ ys)
 sets_then l i xs ys j e = rw e (sym (sets_cat l i xs ys))
-
--- a number of w + k bytes is stored by its higher and its lower half
-pub sets_halves : (w k v : ℕ) (l : List ℕ) (at : ℕ) → sets (sets l at (be w (v / 256 ^ k))) (at + w) (be k (v % 256 ^ k)) ≡ sets l at (be (w + k) v)
-sets_halves w k v l at =
-    sets_then l at (be w (v / 256 ^ k)) (be k (v % 256 ^ k)) (at + w) (rw length_be) ∙ rw (be_halves w k v)
 
 -- x stored behind p, which took the place of the first elements of o
 pub over : (p x o : List ℕ) → length p + length x ≤ length o → sets (p ++ drop (length p) o) (length p) x ≡ (p ++ x) ++ drop (length p + length x) o

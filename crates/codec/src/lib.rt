@@ -22,43 +22,34 @@ pub fn put_u16(out: &mut [u8], at: usize, v: u16)
     requires { at + 2 ≤ length out.old }
     ensures { out.new ≡ sets out.old at (be 2 v) }
 {
-    put_u8(out, at, (v / 256) as u8);
-    put_u8(out, at + 1, (v % 256) as u8);
+    let [high, low] = v.to_be_bytes();
+    out[at] = high;
+    out[at + 1] = low;
 }
 
 pub fn put_u32(out: &mut [u8], at: usize, v: u32)
     requires { at + 4 ≤ length out.old }
     ensures { out.new ≡ sets out.old at (be 4 v) }
 {
-    put_u16(out, at, (v / 65536) as u16);
-    put_u16(out, at + 2, (v % 65536) as u16);
+    // One store as compiled; `copy_from_slice` would test at run time that the two do not overlap.
+    let [first, second, third, fourth] = v.to_be_bytes();
+    out[at] = first;
+    out[at + 1] = second;
+    out[at + 2] = third;
+    out[at + 3] = fourth;
 }
 
 pub fn put_flag(out: &mut [u8], at: usize, b: bool)
     requires { at + 1 ≤ length out.old }
     ensures { out.new ≡ sets out.old at (flag.enc b) }
 {
-    put_u8(out, at, b as u8);
+    put_u8(out, at, u8::from(b));
 }
 
 pub fn get_u8(s: &[u8], at: usize) -> u8
     ensures { result ≡ num_at 1 s.now at }
 {
     if at < s.len() { s[at] } else { 0 }
-}
-
-// Two bytes, the higher first.
-fn join_u16(high: u8, low: u8) -> u16
-    ensures { result ≡ high * 256 + low }
-{
-    (high as u16) * 256 + (low as u16)
-}
-
-// Two numbers of two bytes, the higher first.
-fn join_u32(high: u16, low: u16) -> u32
-    ensures { result ≡ high * 65536 + low }
-{
-    (high as u32) * 65536 + (low as u32)
 }
 
 pub fn get_u16(s: &[u8], at: usize) -> u16
@@ -68,18 +59,23 @@ pub fn get_u16(s: &[u8], at: usize) -> u16
     if s.len() <= at {
         return 0;
     }
-    join_u16(s[at], get_u8(s, at + 1))
+    u16::from_be_bytes([s[at], get_u8(s, at + 1)])
 }
 
 // A number that the end of the slice may cut off: a test for each byte.
 fn cut_u32(s: &[u8], at: usize) -> u32
     ensures { result ≡ num_at 4 s.now at }
 {
-    // Below a length, `at + 2` does not wrap.
+    // Below a length, `at + 3` does not wrap.
     if s.len() <= at {
         return 0;
     }
-    join_u32(get_u16(s, at), get_u16(s, at + 2))
+    u32::from_be_bytes([
+        s[at],
+        get_u8(s, at + 1),
+        get_u8(s, at + 2),
+        get_u8(s, at + 3),
+    ])
 }
 
 // Four bytes that lie inside the slice, which it requires: with no test, they can be one load. A
@@ -88,7 +84,7 @@ pub fn u32_at(s: &[u8], at: usize) -> u32
     requires { at + 4 ≤ length s.now }
     ensures { result ≡ num_at 4 s.now at }
 {
-    join_u32(join_u16(s[at], s[at + 1]), join_u16(s[at + 2], s[at + 3]))
+    u32::from_be_bytes([s[at], s[at + 1], s[at + 2], s[at + 3]])
 }
 
 pub fn get_u32(s: &[u8], at: usize) -> u32

@@ -15,8 +15,9 @@ use Rattle.calls.specs.Calls.{InRange, call_of}
 use Rattle.calls.specs.declared.Answer.TheVariants.{Refused}
 use Rattle.calls.specs.declared.Letter.TheVariants.{None}
 use Rattle.calls.specs.declared.Command.{Command}
-use Rattle.calls.specs.declared.Parsed.{Parsed}
-use Rattle.calls.specs.declared.Parsed.TheVariants.{Ok, NoKind}
+use Rattle.calls.specs.Calls.{ReadCall}
+use Rattle.calls.specs.declared.CommandError.TheVariants.{NoKind}
+use Rattle.std.specs.Prelude.{Ok, Err}
 use Rattle.history.specs.OnePhase.{as_call}
 use Rattle.history.specs.Effects.{Reading, refused, accepted, reading}
 use Rattle.machine.specs.Sound.{sound_state}
@@ -74,9 +75,9 @@ module _ (rows : List EventRow) (m : Meter) where
       either (λ (o : Outcome). o.answer ≡ Refused n → o.letter ≡ None) (sound_meter rows m)
       (λ e h. no_letter m (result_of rows (scalars_of m) c) n h) (λ e h. refl)
 
-  performed_same : (p : Parsed) (n : ℕ) → (performed rows m p).answer ≡ Refused n → (performed rows m p).meter ≡ m
+  performed_same : (p : ReadCall) (n : ℕ) → (performed rows m p).answer ≡ Refused n → (performed rows m p).meter ≡ m
   performed_same (Ok c) n h = refused_same c n h
-  performed_same NoKind n h = refl
+  performed_same (Err NoKind) n h = refl
 
   pub commanded_same : (c : Command) (n : ℕ) → (commanded rows m c).answer ≡ Refused n → (commanded rows m c).meter ≡ m
   unfolding commanded

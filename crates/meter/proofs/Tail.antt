@@ -17,8 +17,9 @@ use Rattle.calls.specs.declared.Call.TheVariants.{Sample}
 use Rattle.calls.specs.declared.Answer.TheVariants.{Accepted}
 use Rattle.calls.specs.declared.Letter.TheVariants.{None}
 use Rattle.calls.specs.declared.Command.{Command}
-use Rattle.calls.specs.declared.Parsed.{Parsed}
-use Rattle.calls.specs.declared.Parsed.TheVariants.{Ok, NoKind}
+use Rattle.calls.specs.Calls.{ReadCall}
+use Rattle.calls.specs.declared.CommandError.TheVariants.{NoKind}
+use Rattle.std.specs.Prelude.{Ok, Err}
 use Rattle.calls.specs.Calls.{call_of}
 use Rattle.machine.specs.Machine.{Result, refusing, making, owing}
 use Rattle.steps.specs.declared.Scalars.{Scalars}
@@ -112,9 +113,9 @@ module _ (rows : List EventRow) (m : Meter) where
   quiet_applied p s q z sound same is quiet =
       rw (is, same) (quiet_left rows m p (quiet_sample (scalars_of m) p) refl (rw (is, same) at quiet) ∙ sound_in_parts (Sample p) z sound)
 
-  performed_in_parts_lem : (p : Parsed) → Sized m.logs → sound_meter rows m ≡ true → performed_in_parts rows m p ≡ performed rows m p
+  performed_in_parts_lem : (p : ReadCall) → Sized m.logs → sound_meter rows m ≡ true → performed_in_parts rows m p ≡ performed rows m p
   performed_in_parts_lem (Ok c) z e = sound_in_parts c z e
-  performed_in_parts_lem NoKind z e = refl
+  performed_in_parts_lem (Err NoKind) z e = refl
 
   pub command_in_parts : (c : Command) → Sized m.logs → sound_meter rows m ≡ true → commanded_in_parts rows m c ≡ commanded rows m c
   unfolding commanded_in_parts commanded

@@ -5,8 +5,9 @@ use Rattle.calls.specs.declared.Call.{Call}
 use Rattle.calls.specs.declared.Answer.TheVariants.{Accepted, Refused}
 use Rattle.calls.specs.declared.Letter.TheVariants.{None}
 use Rattle.calls.specs.declared.Command.{Command}
-use Rattle.calls.specs.declared.Parsed.{Parsed}
-use Rattle.calls.specs.declared.Parsed.TheVariants.{Ok, NoKind}
+use Rattle.calls.specs.Calls.{ReadCall}
+use Rattle.calls.specs.declared.CommandError.TheVariants.{NoKind}
+use Rattle.std.specs.Prelude.{Ok, Err}
 use Rattle.calls.specs.Calls.{call_of}
 use Rattle.machine.specs.Machine.{Result, refusing, making, state_after}
 use Rattle.steps.specs.Step.{result_of}
@@ -29,9 +30,9 @@ unfoldable pub applied : List EventRow → Meter → Call → Outcome
 applied rows m c = cond (sound_meter rows m) (carried_out m (result_of rows (scalars_of m) c)) (refused_with m 12)
 
 -- 'kind | 13 | ..; the command's reading fails before the record is touched'; document 02, A3: 'Refusal 13 now means not 1–17 ..'
-abbrev pub performed : List EventRow → Meter → Parsed → Outcome
+abbrev pub performed : List EventRow → Meter → ReadCall → Outcome
 performed rows m (Ok c) = applied rows m c
-performed rows m NoKind = refused_with m 13
+performed rows m (Err NoKind) = refused_with m 13
 
 -- a command on a record
 unfoldable pub commanded : List EventRow → Meter → Command → Outcome

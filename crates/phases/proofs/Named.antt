@@ -1,23 +1,25 @@
 -- The call that a kind names is of that kind, and the kinds from 1 to 15 name one.
 use Rattle.base.proofs.Prelude.{◌≡◌, refl, sym, ◌∙◌, true, false, cond, false≢true, and-false, ℕ, suc, ◌≤◌, arith, eqb, lt-leb, eqb-true, eqb-false, within}
 use Rattle.base.proofs.Prelude.{by_test}
-use Rattle.phases.specs.declared.{ThreePhaseCall.ThreePhaseCall, ThreePhaseCommand.ThreePhaseCommand, ThreePhaseParsed.ThreePhaseParsed}
+use Rattle.phases.specs.declared.{ThreePhaseCall.ThreePhaseCall, ThreePhaseCommand.ThreePhaseCommand}
 use Rattle.phases.specs.declared.ThreePhaseCall.TheVariants.{Sample, RemoteDisconnect, RemoteReconnect, ManualDisconnect, ManualReconnect, SetMode}
 use Rattle.phases.specs.declared.ThreePhaseCall.TheVariants.{SetLimiter, SetClock, Event, SetAlarmFilter, SetErrorFilter, ClearAlarms, ClearErrors}
 use Rattle.phases.specs.declared.ThreePhaseCall.TheVariants.{ClearLog, Script}
-use Rattle.phases.specs.declared.ThreePhaseParsed.TheVariants.{Ok, NoKind}
+use Rattle.phases.specs.Calls.{ThreePhaseReadCall}
+use Rattle.calls.specs.declared.CommandError.TheVariants.{NoKind}
+use Rattle.std.specs.Prelude.{Ok, Err}
 use Rattle.base.specs.Tests.{numbers_from}
 use Rattle.calls.proofs.Named.{signed_back}
 use Rattle.phases.specs.Calls.{three_phase_kind_of, three_phase_call_of, ThreePhaseInRange}
 use Rattle.phases.specs.Laws.{three_phase_command_naming, Laws}
 
 -- what was read of a kind: a call of that kind, which is one from 1 to 15, or none, and then it is none of them
-abbrev Read : ℕ → ThreePhaseParsed → Type 0
+abbrev Read : ℕ → ThreePhaseReadCall → Type 0
 Read k (Ok c) = (three_phase_kind_of c ≡ k) × (within 1 15 k ≡ true)
-Read k NoKind = within 1 15 k ≡ false
+Read k (Err NoKind) = within 1 15 k ≡ false
 
 -- one kind of the list: it is this one, or a later one
-or_later : (k j : ℕ) (x : ThreePhaseCall) (rest : ThreePhaseParsed) → three_phase_kind_of x ≡ j → within 1 15 j ≡ true → (suc j ≤ k → Read k rest) → j ≤ k
+or_later : (k j : ℕ) (x : ThreePhaseCall) (rest : ThreePhaseReadCall) → three_phase_kind_of x ≡ j → within 1 15 j ≡ true → (suc j ≤ k → Read k rest) → j ≤ k
     → Read k (cond (eqb k j) (Ok x) rest)
 or_later k j x rest d w later h =
     by_test (eqb k j) (λ q. rw (q, eqb-true k j q) (d, w)) (λ q. rw q (later (omega (arith, eqb-false k j q))))
@@ -39,14 +41,14 @@ module _ (r : ThreePhaseCommand) where
   kind_named : (c : ThreePhaseCall) → three_phase_call_of r ≡ Ok c → three_phase_kind_of c ≡ r.kind
   kind_named c e = (rw e at read).0
 
-  no_kind : within 1 15 r.kind ≡ false → three_phase_call_of r ≡ NoKind
+  no_kind : within 1 15 r.kind ≡ false → three_phase_call_of r ≡ Err NoKind
   no_kind out = go (three_phase_call_of r) refl
     where
-      go : (p : ThreePhaseParsed) → three_phase_call_of r ≡ p → p ≡ NoKind
+      go : (p : ThreePhaseReadCall) → three_phase_call_of r ≡ p → p ≡ Err NoKind
       go (Ok c) e = absurd (false≢true (sym out ∙ (rw e at read).1))
-      go NoKind e = refl
+      go (Err NoKind) e = refl
 
-  some_kind : within 1 15 r.kind ≡ true → three_phase_call_of r ≡ NoKind → ⊥
+  some_kind : within 1 15 r.kind ≡ true → three_phase_call_of r ≡ Err NoKind → ⊥
   some_kind kind e = false≢true (sym (rw e at read) ∙ kind)
 
 call_named : (c : ThreePhaseCall) → ThreePhaseInRange c → three_phase_call_of (three_phase_command_naming c) ≡ Ok c

@@ -1,14 +1,14 @@
 -- The calls of the three-phase meter (document 02, A13): document 01's fifteen, with three powers in a sample and four thresholds in a limiter setting.
 -- '.. A3's profile and area aren't offered here, its kinds get 13 ..'
-use Rattle.std.specs.Prelude.{ℕ, cond, List, [], ◌∷◌, eqb}
+use Rattle.std.specs.Prelude.{ℕ, cond, List, [], ◌∷◌, eqb, Result, Ok, Err}
 use Rattle.calls.specs.Calls.{signed_of, Word, Signed}
 use Rattle.phases.specs.declared.ThreePhaseCall.{ThreePhaseCall}
 use Rattle.phases.specs.declared.ThreePhaseCall.TheVariants.{Sample, RemoteDisconnect, RemoteReconnect, ManualDisconnect, ManualReconnect, SetMode}
 use Rattle.phases.specs.declared.ThreePhaseCall.TheVariants.{SetLimiter, SetClock, Event, SetAlarmFilter, SetErrorFilter, ClearAlarms, ClearErrors}
 use Rattle.phases.specs.declared.ThreePhaseCall.TheVariants.{ClearLog, Script}
 use Rattle.phases.specs.declared.ThreePhaseCommand.{ThreePhaseCommand}
-use Rattle.phases.specs.declared.ThreePhaseParsed.{ThreePhaseParsed}
-use Rattle.phases.specs.declared.ThreePhaseParsed.TheVariants.{Ok, NoKind}
+use Rattle.calls.specs.declared.CommandError.{CommandError}
+use Rattle.calls.specs.declared.CommandError.TheVariants.{NoKind}
 
 -- the number of a call's kind in document 01's list
 abbrev pub three_phase_kind_of : ThreePhaseCall → ℕ
@@ -33,9 +33,13 @@ abbrev pub three_phase_command_of : ℕ → ℕ → ℕ → ℕ → ℕ → ℕ 
 three_phase_command_of k n1 n2 n3 n4 n5 n6 n7 n8 =
     record { kind = k; n1 = n1; n2 = n2; n3 = n3; n4 = n4; n5 = n5; n6 = n6; n7 = n7; n8 = n8 }
 
+-- what a command is read as: the call that it names, or that it names none
+abbrev pub ThreePhaseReadCall : Type 0
+ThreePhaseReadCall = Result ThreePhaseCall CommandError
+
 -- the call of a command's kind and numbers: '.. three powers a second', 'Fresh and call 7 take four thresholds ..', and Over and Under behind them; 'a
 -- sample or threshold is two's complement', 'unused ones ignored'
-unfoldable pub three_phase_call_of : ThreePhaseCommand → ThreePhaseParsed
+unfoldable pub three_phase_call_of : ThreePhaseCommand → ThreePhaseReadCall
 three_phase_call_of r =
     let k = r.kind in
     cond (eqb k 1) (Ok (Sample (signed_of r.n1) (signed_of r.n2) (signed_of r.n3)))
@@ -53,7 +57,7 @@ three_phase_call_of r =
     (cond (eqb k 13) (Ok (ClearErrors r.n1))
     (cond (eqb k 14) (Ok (ClearLog r.n1))
     (cond (eqb k 15) (Ok (Script r.n1))
-    NoKind))))))))))))))
+    (Err NoKind)))))))))))))))
 
 -- the numbers of a call are values of their types
 abbrev pub ThreePhaseInRange : ThreePhaseCall → Type 0

@@ -1,5 +1,5 @@
 -- What holds of the reading of a command of the three-phase meter: what a reader wants beside the definition.
-use Rattle.std.specs.Prelude.{◌≡◌, ℕ, true, false, [], ◌∷◌, map, pos}
+use Rattle.std.specs.Prelude.{◌≡◌, ℕ, true, false, [], ◌∷◌, map, pos, Ok, Err}
 use Rattle.base.specs.Tests.{numbers_from, within}
 use Rattle.calls.specs.Laws.{bits_of}
 use Rattle.phases.specs.declared.ThreePhaseCall.{ThreePhaseCall}
@@ -7,7 +7,7 @@ use Rattle.phases.specs.declared.ThreePhaseCall.TheVariants.{Sample, RemoteDisco
 use Rattle.phases.specs.declared.ThreePhaseCall.TheVariants.{SetLimiter, SetClock, Event, SetAlarmFilter, SetErrorFilter, ClearAlarms, ClearErrors}
 use Rattle.phases.specs.declared.ThreePhaseCall.TheVariants.{ClearLog, Script}
 use Rattle.phases.specs.declared.ThreePhaseCommand.{ThreePhaseCommand}
-use Rattle.phases.specs.declared.ThreePhaseParsed.TheVariants.{Ok, NoKind}
+use Rattle.calls.specs.declared.CommandError.TheVariants.{NoKind}
 use Rattle.phases.specs.Calls.{three_phase_kind_of, three_phase_call_of, three_phase_command_of, ThreePhaseInRange}
 
 -- of this kind and first number, zero in the places of the others
@@ -39,8 +39,8 @@ pub record Laws : Type 0 where
   -- each call is what its own kind and numbers name
   pub call_named : (c : ThreePhaseCall) → ThreePhaseInRange c → three_phase_call_of (three_phase_command_naming c) ≡ Ok c
   -- '13 | not 1–15', and document 02, A13, of A3's kinds: '.. its kinds get 13 ..'
-  pub no_kind : (r : ThreePhaseCommand) → within 1 15 r.kind ≡ false → three_phase_call_of r ≡ NoKind
-  pub some_kind : (r : ThreePhaseCommand) → within 1 15 r.kind ≡ true → three_phase_call_of r ≡ NoKind → ⊥
+  pub no_kind : (r : ThreePhaseCommand) → within 1 15 r.kind ≡ false → three_phase_call_of r ≡ Err NoKind
+  pub some_kind : (r : ThreePhaseCommand) → within 1 15 r.kind ≡ true → three_phase_call_of r ≡ Err NoKind → ⊥
   -- 'unused ones ignored': of each kind with the numbers 1 to 8, the first ones in their order, 'three powers a second', '.. four thresholds ..' and Over and
   -- Under behind them
   pub unused_ignored :

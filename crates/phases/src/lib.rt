@@ -8,6 +8,8 @@ ghost use Rattle.phases.specs.ThreePhase.{exact_sum};
 ghost use Rattle.phases.specs.Laws.{Laws};
 ghost use Rattle.phases.specs.Examples.{Examples};
 
+use calls::CommandError;
+
 // A call with its numbers, which stay 32 bits wide until they are judged.
 #[derive(Clone, Copy)]
 pub enum ThreePhaseCall {
@@ -48,12 +50,8 @@ pub struct ThreePhaseCommand {
     pub n8: u32,
 }
 
-// What a command names.
-#[derive(Clone, Copy)]
-pub enum ThreePhaseParsed {
-    Ok(ThreePhaseCall),
-    NoKind,
-}
+// What a command names: a call, or its kind is none of this meter's.
+pub type ThreePhaseParsed = Result<ThreePhaseCall, CommandError>;
 
 // The exact sum of the three powers: in 32 bits it would wrap.
 pub fn exact_sum(l1: i32, l2: i32, l3: i32) -> i64
@@ -69,19 +67,18 @@ pub fn read_command(command: ThreePhaseCommand) -> ThreePhaseParsed
     ensures laws { Laws }
     ensures examples { Examples }
 {
-    let kind = command.kind;
-    match kind {
-        1 => ThreePhaseParsed::Ok(ThreePhaseCall::Sample(
+    match command.kind {
+        1 => Ok(ThreePhaseCall::Sample(
             calls::signed(command.n1),
             calls::signed(command.n2),
             calls::signed(command.n3),
         )),
-        2 => ThreePhaseParsed::Ok(ThreePhaseCall::RemoteDisconnect),
-        3 => ThreePhaseParsed::Ok(ThreePhaseCall::RemoteReconnect),
-        4 => ThreePhaseParsed::Ok(ThreePhaseCall::ManualDisconnect),
-        5 => ThreePhaseParsed::Ok(ThreePhaseCall::ManualReconnect),
-        6 => ThreePhaseParsed::Ok(ThreePhaseCall::SetMode(command.n1)),
-        7 => ThreePhaseParsed::Ok(ThreePhaseCall::SetLimiter(
+        2 => Ok(ThreePhaseCall::RemoteDisconnect),
+        3 => Ok(ThreePhaseCall::RemoteReconnect),
+        4 => Ok(ThreePhaseCall::ManualDisconnect),
+        5 => Ok(ThreePhaseCall::ManualReconnect),
+        6 => Ok(ThreePhaseCall::SetMode(command.n1)),
+        7 => Ok(ThreePhaseCall::SetLimiter(
             calls::signed(command.n1),
             calls::signed(command.n2),
             calls::signed(command.n3),
@@ -89,14 +86,14 @@ pub fn read_command(command: ThreePhaseCommand) -> ThreePhaseParsed
             command.n5,
             command.n6,
         )),
-        8 => ThreePhaseParsed::Ok(ThreePhaseCall::SetClock(command.n1)),
-        9 => ThreePhaseParsed::Ok(ThreePhaseCall::Event(command.n1)),
-        10 => ThreePhaseParsed::Ok(ThreePhaseCall::SetAlarmFilter(command.n1)),
-        11 => ThreePhaseParsed::Ok(ThreePhaseCall::SetErrorFilter(command.n1)),
-        12 => ThreePhaseParsed::Ok(ThreePhaseCall::ClearAlarms(command.n1)),
-        13 => ThreePhaseParsed::Ok(ThreePhaseCall::ClearErrors(command.n1)),
-        14 => ThreePhaseParsed::Ok(ThreePhaseCall::ClearLog(command.n1)),
-        15 => ThreePhaseParsed::Ok(ThreePhaseCall::Script(command.n1)),
-        _ => ThreePhaseParsed::NoKind,
+        8 => Ok(ThreePhaseCall::SetClock(command.n1)),
+        9 => Ok(ThreePhaseCall::Event(command.n1)),
+        10 => Ok(ThreePhaseCall::SetAlarmFilter(command.n1)),
+        11 => Ok(ThreePhaseCall::SetErrorFilter(command.n1)),
+        12 => Ok(ThreePhaseCall::ClearAlarms(command.n1)),
+        13 => Ok(ThreePhaseCall::ClearErrors(command.n1)),
+        14 => Ok(ThreePhaseCall::ClearLog(command.n1)),
+        15 => Ok(ThreePhaseCall::Script(command.n1)),
+        _ => Err(CommandError::NoKind),
     }
 }

@@ -10,7 +10,7 @@ use Rattle.history.specs.Account.{accepted_calls}
 use Rattle.history.specs.RemoteDisconnect.{Holds, reconnect_tried}
 use Rattle.phases.specs.declared.ThreePhaseCall.{ThreePhaseCall}
 use Rattle.phases.specs.declared.ThreePhaseCommand.{ThreePhaseCommand}
-use Rattle.phases.specs.declared.ThreePhaseParsed.TheVariants.{Ok}
+use Rattle.std.specs.Prelude.{Ok}
 use Rattle.phases.specs.Calls.{three_phase_call_of, AllThreePhaseInRange}
 use Rattle.phases.specs.ThreePhase.{ThreePhaseFresh, as_any_fresh, as_any_call, three_phase_account, three_phase_letter}
 use Rattle.phases_meter.specs.Machine.{three_phase_commanded}

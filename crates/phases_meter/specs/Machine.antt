@@ -6,8 +6,9 @@ use Rattle.calls.specs.declared.Letter.TheVariants.{None}
 use Rattle.machine.specs.Machine.{Result, refusing, making, state_after}
 use Rattle.phases.specs.declared.ThreePhaseCall.{ThreePhaseCall}
 use Rattle.phases.specs.declared.ThreePhaseCommand.{ThreePhaseCommand}
-use Rattle.phases.specs.declared.ThreePhaseParsed.{ThreePhaseParsed}
-use Rattle.phases.specs.declared.ThreePhaseParsed.TheVariants.{Ok, NoKind}
+use Rattle.phases.specs.Calls.{ThreePhaseReadCall}
+use Rattle.calls.specs.declared.CommandError.TheVariants.{NoKind}
+use Rattle.std.specs.Prelude.{Ok, Err}
 use Rattle.phases.specs.Calls.{three_phase_call_of}
 use Rattle.phases_steps.specs.Step.{three_phase_result}
 use Rattle.phases_meter.specs.declared.ThreePhaseMeter.{ThreePhaseMeter}
@@ -30,9 +31,9 @@ three_phase_applied rows m c =
     cond (sound_three_phase_meter rows m) (three_phase_carried_out m (three_phase_result rows m.scalars c)) (three_phase_refused m 12)
 
 -- 'kind | 13 | ..; the command's reading fails before the record is touched'; of A3's kinds (document 02, A13): '.. its kinds get 13 ..'
-abbrev pub three_phase_performed : List EventRow → ThreePhaseMeter → ThreePhaseParsed → ThreePhaseOutcome
+abbrev pub three_phase_performed : List EventRow → ThreePhaseMeter → ThreePhaseReadCall → ThreePhaseOutcome
 three_phase_performed rows m (Ok c) = three_phase_applied rows m c
-three_phase_performed rows m NoKind = three_phase_refused m 13
+three_phase_performed rows m (Err NoKind) = three_phase_refused m 13
 
 -- a command on a record
 unfoldable pub three_phase_commanded : List EventRow → ThreePhaseMeter → ThreePhaseCommand → ThreePhaseOutcome

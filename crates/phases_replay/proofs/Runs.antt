@@ -9,8 +9,9 @@ use Rattle.calls.specs.declared.Answer.{Answer}
 use Rattle.calls.specs.declared.Answer.TheVariants as answer
 use Rattle.phases.specs.declared.ThreePhaseCall.{ThreePhaseCall}
 use Rattle.phases.specs.declared.ThreePhaseCommand.{ThreePhaseCommand}
-use Rattle.phases.specs.declared.ThreePhaseParsed.{ThreePhaseParsed}
-use Rattle.phases.specs.declared.ThreePhaseParsed.TheVariants.{Ok, NoKind}
+use Rattle.phases.specs.Calls.{ThreePhaseReadCall}
+use Rattle.calls.specs.declared.CommandError.TheVariants.{NoKind}
+use Rattle.std.specs.Prelude.{Ok, Err}
 use Rattle.phases.specs.Calls.{three_phase_call_of, AllThreePhaseInRange}
 use Rattle.phases.specs.ThreePhase.{ThreePhaseFresh}
 use Rattle.phases_meter.specs.declared.ThreePhaseMeter.{ThreePhaseMeter}
@@ -47,20 +48,20 @@ module _ (rows : List EventRow) where
   unfolding three_phase_record_after three_phase_calls_in three_phase_commanded
   meter_next m r rs = go (three_phase_call_of r)
     where
-      go : (p : ThreePhaseParsed)
+      go : (p : ThreePhaseReadCall)
           → three_phase_record_after rows m (three_phase_with_call p (three_phase_calls_in rs))
           ≡ three_phase_record_after rows (three_phase_performed rows m p).meter (three_phase_calls_in rs)
       go (Ok c) = refl
-      go NoKind = refl
+      go (Err NoKind) = refl
 
   -- the loop keeps its record in parts: the arrays keep their types' lengths
   commanded_sized : (m : ThreePhaseMeter) (r : ThreePhaseCommand) → Sized m.logs → Sized (three_phase_commanded rows m r).meter.logs
   unfolding three_phase_commanded
   commanded_sized m r z = go (three_phase_call_of r)
     where
-      go : (p : ThreePhaseParsed) → Sized (three_phase_performed rows m p).meter.logs
+      go : (p : ThreePhaseReadCall) → Sized (three_phase_performed rows m p).meter.logs
       go (Ok c) = applied_sized rows m c z
-      go NoKind = z
+      go (Err NoKind) = z
 
   -- a sound meter stays sound, whatever the record
   commanded_sound : every lawful rows ≡ true → (m : ThreePhaseMeter) (r : ThreePhaseCommand) → three_phase_record_format.Holds r → Sized m.logs
@@ -68,9 +69,9 @@ module _ (rows : List EventRow) where
   unfolding three_phase_commanded
   commanded_sound table m r h z e = go (three_phase_call_of r) (parsed_range r h)
     where
-      go : (p : ThreePhaseParsed) → NamedInRange p → sound_three_phase_meter rows (three_phase_performed rows m p).meter ≡ true
+      go : (p : ThreePhaseReadCall) → NamedInRange p → sound_three_phase_meter rows (three_phase_performed rows m p).meter ≡ true
       go (Ok c) i = applied_sound rows table m c i z e
-      go NoKind i = e
+      go (Err NoKind) i = e
 
   -- a turn of it: the record at i is behind it, those from i + 1 on are left, and a sound meter is one still
   pub next_turn : every lawful rows ≡ true → (s : List ℕ) → Bytes s → (i : ℕ) → i < length s / 33

@@ -5,8 +5,9 @@ use Rattle.events.specs.Table.{EventRow}
 use Rattle.calls.specs.Calls.{signed_of}
 use Rattle.phases.specs.declared.ThreePhaseCall.{ThreePhaseCall}
 use Rattle.phases.specs.declared.ThreePhaseCommand.{ThreePhaseCommand}
-use Rattle.phases.specs.declared.ThreePhaseParsed.{ThreePhaseParsed}
-use Rattle.phases.specs.declared.ThreePhaseParsed.TheVariants.{Ok, NoKind}
+use Rattle.phases.specs.Calls.{ThreePhaseReadCall}
+use Rattle.calls.specs.declared.CommandError.TheVariants.{NoKind}
+use Rattle.std.specs.Prelude.{Ok, Err}
 use Rattle.phases.specs.Calls.{three_phase_call_of}
 use Rattle.phases.specs.ThreePhase.{ThreePhaseFresh, ThreePhaseAccount, three_phase_account}
 use Rattle.phases_meter.specs.declared.ThreePhaseMeter.{ThreePhaseMeter}
@@ -46,9 +47,9 @@ three_phase_settings_in r =
 
 -- 'kind | 13 | not 1–15; the command's reading fails before the record is touched', and of A3's kinds (document 02, A13): '.. its kinds get 13 ..': such a
 -- record adds no call
-abbrev pub three_phase_with_call : ThreePhaseParsed → List ThreePhaseCall → List ThreePhaseCall
+abbrev pub three_phase_with_call : ThreePhaseReadCall → List ThreePhaseCall → List ThreePhaseCall
 three_phase_with_call (Ok c) cs = c ∷ cs
-three_phase_with_call NoKind cs = cs
+three_phase_with_call (Err NoKind) cs = cs
 
 -- the calls that records name, in order
 unfoldable pub three_phase_calls_in : List ThreePhaseCommand → List ThreePhaseCall

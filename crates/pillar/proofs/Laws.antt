@@ -22,8 +22,9 @@ use Rattle.calls.specs.declared.Answer.{Answer}
 use Rattle.calls.specs.declared.Answer.TheVariants.{Accepted, Refused}
 use Rattle.calls.specs.declared.Command.{Command}
 use Rattle.calls.specs.declared.Letter.TheVariants.{None}
-use Rattle.calls.specs.declared.Parsed.{Parsed}
-use Rattle.calls.specs.declared.Parsed.TheVariants.{Ok, NoKind}
+use Rattle.calls.specs.Calls.{ReadCall}
+use Rattle.calls.specs.declared.CommandError.TheVariants.{NoKind}
+use Rattle.std.specs.Prelude.{Ok, Err}
 use Rattle.calls.specs.Calls.{answer_number, letter_byte, call_of, InRange, AllInRange}
 use Rattle.calls.proofs.Named.{laws as call_laws}
 use Rattle.history.specs.OnePhase.{Fresh, account, letter}
@@ -89,9 +90,9 @@ module _ (rows : List EventRow) where
   unfolding call_number call_page
   call_same page r = go (call_of r)
     where
-      go : (p : Parsed) → (performed_number rows page p ≡ 0 → ⊥) → performed_page rows page p ≡ page
+      go : (p : ReadCall) → (performed_number rows page p ≡ 0 → ⊥) → performed_page rows page p ≡ page
       go (Ok c) some = read_same (read_of rows page).answer _ _ page (refused_bytes (outcome_on rows page c) page) some
-      go NoKind some = refl
+      go (Err NoKind) some = refl
 
   -- ---- the kind comes first
 
@@ -104,9 +105,9 @@ module _ (rows : List EventRow) where
     unfolding call_number
     unread n in_kinds e = go _ refl
       where
-        go : (p : Parsed) → call_of r ≡ p → performed_number rows page p ≡ n
+        go : (p : ReadCall) → call_of r ≡ p → performed_number rows page p ≡ n
         go (Ok c) names = rw e
-        go NoKind names = absurd (call_laws.some_kind r in_kinds names)
+        go (Err NoKind) names = absurd (call_laws.some_kind r in_kinds names)
 
     -- ---- `pillar_check`
 
@@ -129,10 +130,10 @@ pub record Read (rows : List EventRow) (page : List ℕ) (m : Meter) : Type 0 wh
 module _ (rows : List EventRow) (table : every lawful rows ≡ true) where
   -- ---- a call on a page that is read
 
-  performed_sound : (m : Meter) (p : Parsed) → AllInRange (with_call p []) → sound_meter rows m ≡ true → Sized m.logs
+  performed_sound : (m : Meter) (p : ReadCall) → AllInRange (with_call p []) → sound_meter rows m ≡ true → Sized m.logs
       → sound_meter rows (performed rows m p).meter ≡ true
   performed_sound m (Ok c) i sound sized = ((meter.laws).1 rows table).kept_sound m c sized i.0 sound
-  performed_sound m NoKind i sound sized = sound
+  performed_sound m (Err NoKind) i sound sized = sound
 
   module _ {page : List ℕ} {m : Meter} (k : Read rows page m) (r : Command) (i : AllInRange (with_call (call_of r) [])) where
     next_sound : sound_meter rows (next_of rows m r).meter ≡ true
@@ -147,17 +148,17 @@ module _ (rows : List EventRow) (table : every lawful rows ≡ true) where
     unfolding call_number commanded kept_number
     number_read = go (call_of r)
       where
-        go : (p : Parsed) → performed_number rows page p ≡ kept_number rows (performed rows m p) page
+        go : (p : ReadCall) → performed_number rows page p ≡ kept_number rows (performed rows m p) page
         go (Ok c) = ap (λ (o : Outcome). number_or o.answer (kept_number rows (applied rows o.meter c) page)) k.reads
-        go NoKind = refl
+        go (Err NoKind) = refl
 
     page_read : call_page rows page r ≡ kept_page rows (next_of rows m r) page
     unfolding call_page commanded kept_page
     page_read = go (call_of r)
       where
-        go : (p : Parsed) → performed_page rows page p ≡ kept_page rows (performed rows m p) page
+        go : (p : ReadCall) → performed_page rows page p ≡ kept_page rows (performed rows m p) page
         go (Ok c) = ap (λ (o : Outcome). if_accepted o.answer (kept_page rows (applied rows o.meter c) page) page) k.reads
-        go NoKind = refl
+        go (Err NoKind) = refl
 
     answer_on : call_number rows page r ≡ answer_number (next_of rows m r).answer
     answer_on =
@@ -213,9 +214,9 @@ module _ (rows : List EventRow) (table : every lawful rows ≡ true) where
   range_behind [] c i k = (k, tt)
   range_behind (d ∷ calls) c i k = (i.0, range_behind calls c i.1 k)
 
-  first_range : (p : Parsed) (cs : List Call) → AllInRange (with_call p cs) → AllInRange (with_call p [])
+  first_range : (p : ReadCall) (cs : List Call) → AllInRange (with_call p cs) → AllInRange (with_call p [])
   first_range (Ok c) cs i = (i.0, tt)
-  first_range NoKind cs i = tt
+  first_range (Err NoKind) cs i = tt
 
   module _ (f : Fresh) (t : Settings f) where
     -- the record after some calls
@@ -237,7 +238,7 @@ module _ (rows : List EventRow) (table : every lawful rows ≡ true) where
         ap (λ (page : List ℕ). call_pages rows page rs) (page_on (from_record calls k) r (first_range (call_of r) (calls_in rs) i))
         ∙ go (call_of r) i (pages_from rs)
       where
-        go : (p : Parsed) → AllInRange (with_call p (calls_in rs))
+        go : (p : ReadCall) → AllInRange (with_call p (calls_in rs))
             → ((calls : List Call) → AllInRange (calls_in rs) → AllInRange calls
             → call_pages rows (page_of (reached calls)) rs ≡ page_of (meter_after rows (reached calls) rs))
             → call_pages rows (page_of (performed rows (reached calls) p).meter) rs ≡ page_of (record_after rows (reached calls) (with_call p (calls_in rs)))
@@ -245,7 +246,7 @@ module _ (rows : List EventRow) (table : every lawful rows ≡ true) where
             ap (λ (m : Meter). call_pages rows (page_of m) rs) (sym (behind (record_of (fresh_state f)) calls c))
             ∙ rest (calls ++ (c ∷ [])) i.1 (range_behind calls c k i.0)
             ∙ ap (λ (m : Meter). page_of (meter_after rows m rs)) (behind (record_of (fresh_state f)) calls c)
-        go NoKind i rest = rest calls i k
+        go (Err NoKind) i rest = rest calls i k
 
   pub fresh_sound : (f : Fresh) → SettingsInRange f → (fresh_of f).answer ≡ Accepted → sound_meter rows (fresh_of f).meter ≡ true
   unfolding record_after
@@ -273,8 +274,8 @@ module _ (rows : List EventRow) (table : every lawful rows ≡ true) where
       none c Accepted e z = absurd (z refl)
       none c (Refused n) e z = ((meter.laws).1 rows table).refused_letter m c n e
 
-      go : (p : Parsed) (a : Answer) → call_of r ≡ p → (read_of rows page).answer ≡ a → letter_byte (performed_letter rows page p) ≡ 0
-      go NoKind a names e = refl
+      go : (p : ReadCall) (a : Answer) → call_of r ≡ p → (read_of rows page).answer ≡ a → letter_byte (performed_letter rows page p) ≡ 0
+      go (Err NoKind) a names e = refl
       go (Ok c) (Refused n) names e = rw e
       go (Ok c) Accepted names e =
           rw e (ap letter_byte (none c (applied rows m c).answer refl (λ z. refused (answered c names e ∙ z))))

@@ -7,7 +7,7 @@ use Rattle.tables.specs.Bytes.{table_of}
 use Rattle.calls.specs.declared.Answer.TheVariants.{Accepted, Refused}
 use Rattle.calls.specs.declared.Call.{Call}
 use Rattle.calls.specs.declared.Command.{Command}
-use Rattle.calls.specs.declared.Parsed.TheVariants.{Ok}
+use Rattle.std.specs.Prelude.{Ok}
 use Rattle.calls.specs.Calls.{answer_number, letter_byte, call_of, AllInRange}
 use Rattle.history.specs.OnePhase.{Fresh, account, letter}
 use Rattle.history.specs.RemoteDisconnect.{HoldsOnePhase}

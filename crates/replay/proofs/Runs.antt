@@ -14,8 +14,9 @@ use Rattle.logs.specs.Layout.{Sized}
 use Rattle.calls.specs.declared.Answer.{Answer}
 use Rattle.calls.specs.declared.Answer.TheVariants as answer
 use Rattle.calls.specs.declared.Command.{Command}
-use Rattle.calls.specs.declared.Parsed.{Parsed}
-use Rattle.calls.specs.declared.Parsed.TheVariants.{Ok, NoKind}
+use Rattle.calls.specs.Calls.{ReadCall}
+use Rattle.calls.specs.declared.CommandError.TheVariants.{NoKind}
+use Rattle.std.specs.Prelude.{Ok, Err}
 use Rattle.calls.specs.declared.Call.{Call}
 use Rattle.calls.specs.Calls.{call_of, AllInRange}
 use Rattle.meter.specs.declared.Meter.{Meter}
@@ -59,14 +60,14 @@ module _ (rows : List EventRow) where
   unfolding record_after calls_in commanded
   meter_next m r rs = go (call_of r)
     where
-      go : (p : Parsed) → record_after rows m (with_call p (calls_in rs)) ≡ record_after rows (performed rows m p).meter (calls_in rs)
+      go : (p : ReadCall) → record_after rows m (with_call p (calls_in rs)) ≡ record_after rows (performed rows m p).meter (calls_in rs)
       go (Ok c) = refl
-      go NoKind = refl
+      go (Err NoKind) = refl
 
   -- the loop keeps its record in parts: the arrays keep their types' lengths
-  performed_sized : (m : Meter) (p : Parsed) → Sized m.logs → Sized (performed rows m p).meter.logs
+  performed_sized : (m : Meter) (p : ReadCall) → Sized m.logs → Sized (performed rows m p).meter.logs
   performed_sized m (Ok c) z = applied_sized rows m c z
-  performed_sized m NoKind z = z
+  performed_sized m (Err NoKind) z = z
 
   commanded_sized : (m : Meter) (r : Command) → Sized m.logs → Sized (commanded rows m r).meter.logs
   unfolding commanded
@@ -78,9 +79,9 @@ module _ (rows : List EventRow) where
   unfolding record_after calls_in
   next_sound table m r h z e = ap (sound_meter rows) (sym (meter_next m r [])) ∙ go (call_of r) (parsed_range r h)
     where
-      go : (p : Parsed) → ParsedInRange p → sound_meter rows (record_after rows m (with_call p [])) ≡ true
+      go : (p : ReadCall) → ParsedInRange p → sound_meter rows (record_after rows m (with_call p [])) ≡ true
       go (Ok c) i = (laws.1 rows table).kept_sound m c z i e
-      go NoKind i = e
+      go (Err NoKind) i = e
 
   -- a turn of it: the record at i is behind it, and those from i + 1 on are left
   module _ (s : List ℕ) (i : ℕ) (m : Meter) (r : Command) (o : Outcome) (h : i < length s / 21) where

@@ -1,6 +1,6 @@
 use Rattle.base.proofs.Prelude.{ap, ◌∙◌, ℤ, rules}
 use Rattle.base.proofs.Tests.{tests}
-use Rattle.calls.specs.declared.Parsed.TheVariants.{Ok}
+use Rattle.std.specs.Prelude.{Ok}
 use Rattle.calls.specs.declared.Call.TheVariants.{Sample, SetLimiter, SetProfile}
 use Rattle.calls.specs.Calls.{call_of}
 use Rattle.calls.proofs.Named.{laws}

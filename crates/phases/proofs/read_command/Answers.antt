@@ -2,7 +2,7 @@ use Rattle.base.proofs.Prelude.{ap₂, ◌∙◌, ℤ, rules}
 use Rattle.base.proofs.Tests.{tests}
 use Rattle.phases.specs.Examples.{Examples}
 use Rattle.phases.specs.Laws.{Laws}
-use Rattle.phases.specs.declared.ThreePhaseParsed.TheVariants.{Ok}
+use Rattle.std.specs.Prelude.{Ok}
 use Rattle.phases.specs.declared.ThreePhaseCall.TheVariants.{Sample, SetLimiter}
 use Rattle.phases.specs.Calls.{three_phase_call_of}
 use Rattle.phases.proofs.Named.{laws}

@@ -1,9 +1,10 @@
+use Rattle.calls.proofs.Named.{one_error}
 use Rattle.phases_meter.specs.Machine.{three_phase_commanded}
 use Rattle.phases_meter.proofs.ThreePhaseMeter.command.Goals as goal
 
 pub returns-in_default : goal.returns-in_default
 unfolding three_phase_commanded
-returns-in_default c = rw (← c.read_command.ensures.value, c.in_default.is)
+returns-in_default c = rw (← c.read_command.ensures.value, c.in_default.is, one_error c.in_default.field-0)
 
 pub returns : goal.returns
 unfolding three_phase_commanded
