@@ -2,18 +2,19 @@
 use Rattle.base.proofs.Prelude.{◌≡◌, refl, sym, ap, ap₂, ◌∙◌, Bool, true, false, ◌&&◌, ◌||◌, not, cond, false≢true, or-true, List, [], ◌∷◌, ℕ}
 use Rattle.base.proofs.Prelude.{◌+◌, ◌*◌, ◌/◌, ◌%◌, ◌<◌, ◌≤◌, add_assoc, arith, leb, ℤ, pos, negsuc, length, lt-ltb, le-ltb, lt-leb, ltb-true}
 use Rattle.base.proofs.Prelude.{leb-true, leb-false, every, and_left, and_right, by_test}
+use Rattle.std.specs.Prelude.{Result, Ok, Err}
 use Rattle.base.proofs.Bools.{neither}
 use Rattle.base.proofs.Every.{every_first, every_rest}
 use native.Mathlib.Nat.{add_comm}
+use Rattle.std.proofs.Math.Bool.{or_comm, or_assoc}
 use Rattle.base.specs.Numbers.{positive_part, negative_part}
 use Rattle.energy.specs.declared.Energy.{Energy}
 use Rattle.energy.specs.declared.Day.{Day}
-use Rattle.energy.specs.declared.Joined.TheVariants as one
-use Rattle.energy.specs.declared.Measured.{Measured}
-use Rattle.energy.specs.declared.Measured.TheVariants.{Accepted, Refused}
+use Rattle.energy.specs.declared.EnergyRefusal.{EnergyRefusal}
+use Rattle.energy.specs.declared.EnergyRefusal.TheVariants.{UnreducedRemainder, SumTooLarge}
 use Rattle.energy.specs.Energy.{energy_of, amount_of}
 use Rattle.energy.specs.Days.{total, day_of, measured}
-use Rattle.energy.specs.Joins.{is_unreduced, is_too_large, carried, remaining, sum_of, joined, joined_days, paired}
+use Rattle.energy.specs.Joins.{is_unreduced, is_too_large, carried, remaining, sum_of, joined, joined_days}
 use Rattle.energy.specs.Laws.{ExactEnergy, and_then, Bracketing, day, join, samples_in, are_days, joined_in, up_to_limit, is_power, is_reduced, Laws, JoinLaws}
 use Rattle.energy.proofs.Sums.{total_append, total_none, balance}
 
@@ -50,7 +51,7 @@ larger m k e = let l = ltb-true 9007199254740992 (m / 3600) e in lt-ltb 90071992
 abbrev both : ℕ → ℕ → Day
 both m n = record { import = energy_of m; export = energy_of n }
 
-abbrev within : ℕ → ℕ → Measured
+abbrev within : ℕ → ℕ → Result Day EnergyRefusal
 within m n = up_to_limit (both m n)
 
 abbrev large : ℕ → ℕ → Bool
@@ -85,7 +86,7 @@ joined_reduced a b p q =
 more : (m n : ℕ) (c : Day) → is_reduced c ≡ true → and_then (within m n) (λ d. joined_days d c) ≡ within (m + amount_of c.import) (n + amount_of c.export)
 more m n c r = go (large m n) refl
   where
-    go : (x : Bool) → large m n ≡ x → and_then (cond x (Refused 27) (Accepted (both m n))) (λ d. joined_days d c) ≡ within (m + amount_of c.import) (n + amount_of c.export)
+    go : (x : Bool) → large m n ≡ x → and_then (cond x (Err SumTooLarge) (Ok (both m n))) (λ d. joined_days d c) ≡ within (m + amount_of c.import) (n + amount_of c.export)
     go true h = rw (large_more m n (amount_of c.import) (amount_of c.export) h)
     go false h = joined_reduced (both m n) c (reduced_both m n) r ∙ ap₂ (λ (k l : ℕ). within (k + amount_of c.import) (l + amount_of c.export)) (amount_of_lem m) (amount_of_lem n)
 
@@ -93,7 +94,7 @@ more m n c r = go (large m n) refl
 other : (a : Day) (m n : ℕ) → is_reduced a ≡ true → and_then (within m n) (λ d. joined_days a d) ≡ within (amount_of a.import + m) (amount_of a.export + n)
 other a m n r = go (large m n) refl
   where
-    go : (x : Bool) → large m n ≡ x → and_then (cond x (Refused 27) (Accepted (both m n))) (λ d. joined_days a d) ≡ within (amount_of a.import + m) (amount_of a.export + n)
+    go : (x : Bool) → large m n ≡ x → and_then (cond x (Err SumTooLarge) (Ok (both m n))) (λ d. joined_days a d) ≡ within (amount_of a.import + m) (amount_of a.export + n)
     go true h = rw (large_other (amount_of a.import) (amount_of a.export) m n h)
     go false h = joined_reduced a (both m n) r (reduced_both m n) ∙ ap₂ (λ (k l : ℕ). within (amount_of a.import + k) (amount_of a.export + l)) (amount_of_lem m) (amount_of_lem n)
 
@@ -101,7 +102,7 @@ other a m n r = go (large m n) refl
 added : (m n k l : ℕ) → and_then (within m n) (λ a. and_then (within k l) (λ b. joined_days a b)) ≡ within (m + k) (n + l)
 added m n k l = go (large m n) refl
   where
-    go : (x : Bool) → large m n ≡ x → and_then (cond x (Refused 27) (Accepted (both m n))) (λ a. and_then (within k l) (λ b. joined_days a b)) ≡ within (m + k) (n + l)
+    go : (x : Bool) → large m n ≡ x → and_then (cond x (Err SumTooLarge) (Ok (both m n))) (λ a. and_then (within k l) (λ b. joined_days a b)) ≡ within (m + k) (n + l)
     go true h = rw (large_more m n k l h)
     go false h = other (both m n) k l (reduced_both m n) ∙ ap₂ (λ (x y : ℕ). within (x + k) (y + l)) (amount_of_lem m) (amount_of_lem n)
 
@@ -120,7 +121,7 @@ most f h (x ∷ xs) e = omega (arith, h x (every_first is_power x xs e), most f 
 small : (n k : ℕ) → n ≤ k * 2147483648 → k ≤ 86400 → is_too_large (energy_of n) ≡ false
 small n k h l = le-ltb 9007199254740992 (n / 3600) (omega arith)
 
-accepted_day : (xs : List ℤ) → length xs ≤ 86400 → measured xs ≡ Accepted (day_of xs)
+accepted_day : (xs : List ℤ) → length xs ≤ 86400 → measured xs ≡ Ok (day_of xs)
 unfolding measured
 accepted_day xs h = rw (le-ltb 86400 (length xs) h)
 
@@ -159,14 +160,9 @@ laws = record {
 }
 
 -- ---- what it says that a join is accepted
-one_taken : (x h : Bool) (s e : Energy) → cond x (one.Refused 26) (cond h (one.Refused 27) (one.Accepted s)) ≡ one.Accepted e → s ≡ e
-one_taken true h s e p = let z : ◌≡◌ {A = ℕ} 0 1 = cc in absurd (omega arith)
-one_taken false true s e p = let z : ◌≡◌ {A = ℕ} 0 1 = cc in absurd (omega arith)
-one_taken false false s e p = cc
-
-taken : (x h : Bool) (s d : Day) → cond x (Refused 26) (cond h (Refused 27) (Accepted s)) ≡ Accepted d → (x ≡ false) × ((h ≡ false) × (s ≡ d))
-taken true h s d p = let z : ◌≡◌ {A = ℕ} 0 1 = cc in absurd (omega arith)
-taken false true s d p = let z : ◌≡◌ {A = ℕ} 0 1 = cc in absurd (omega arith)
+taken : {T : Type 0} (x h : Bool) (s d : T) → cond x (Err UnreducedRemainder) (cond h (Err SumTooLarge) (Ok s)) ≡ Ok d → (x ≡ false) × ((h ≡ false) × (s ≡ d))
+taken true h s d p = cc
+taken false true s d p = cc
 taken false false s d p = (refl, (refl, cc))
 
 -- ---- a join as the code computes it
@@ -176,24 +172,17 @@ module _ (a b : Energy) where
       let p = neither (is_unreduced a) (is_unreduced b) e in
       (leb-false 3600 a.wattseconds p.0, leb-false 3600 b.wattseconds p.1)
 
-  pub join_unreduced : (is_unreduced a || is_unreduced b) ≡ true → one.Refused 26 ≡ joined a b
+  pub join_unreduced : (is_unreduced a || is_unreduced b) ≡ true → Err UnreducedRemainder ≡ joined a b
   unfolding joined
   join_unreduced e = rw e
 
-  pub join_too_large : (is_unreduced a || is_unreduced b) ≡ false → 9007199254740992 < (sum_of a b).watthours → one.Refused 27 ≡ joined a b
+  pub join_too_large : (is_unreduced a || is_unreduced b) ≡ false → 9007199254740992 < (sum_of a b).watthours → Err SumTooLarge ≡ joined a b
   unfolding joined
   join_too_large e h = rw (e, lt-ltb 9007199254740992 (sum_of a b).watthours h)
 
-  pub join_accepted : (is_unreduced a || is_unreduced b) ≡ false → (sum_of a b).watthours ≤ 9007199254740992 → one.Accepted (sum_of a b) ≡ joined a b
+  pub join_accepted : (is_unreduced a || is_unreduced b) ≡ false → (sum_of a b).watthours ≤ 9007199254740992 → Ok (sum_of a b) ≡ joined a b
   unfolding joined
   join_accepted e h = rw (e, le-ltb 9007199254740992 (sum_of a b).watthours h)
-
--- two directions that are each judged are a day that is judged
-pair_judged : (g h : Bool) (s t : Energy)
-    → paired (cond g (one.Refused 27) (one.Accepted s)) (cond h (one.Refused 27) (one.Accepted t)) ≡ cond (g || h) (Refused 27) (Accepted (record { import = s; export = t }))
-pair_judged true h s t = refl
-pair_judged false true s t = refl
-pair_judged false false s t = refl
 
 four : (w x y z : Bool) → (((w || x) || y) || z) ≡ false → ((w ≡ false) × (x ≡ false)) × ((y ≡ false) × (z ≡ false))
 four w x y z e =
@@ -205,59 +194,87 @@ module _ (a b : Day) where
   abbrev pub any_unreduced : Bool
   any_unreduced = ((is_unreduced a.import || is_unreduced b.import) || is_unreduced a.export) || is_unreduced b.export
 
-  pub days_unreduced : any_unreduced ≡ true → Refused 26 ≡ joined_days a b
+  pub days_unreduced : any_unreduced ≡ true → Err UnreducedRemainder ≡ joined_days a b
   unfolding joined_days
   days_unreduced e = rw e
 
-  pub days_paired : any_unreduced ≡ false → paired (joined a.import b.import) (joined a.export b.export) ≡ joined_days a b
-  unfolding joined joined_days
-  days_paired e =
-      let f = four (is_unreduced a.import) (is_unreduced b.import) (is_unreduced a.export) (is_unreduced b.export) e in
-      rw (f.0.0, f.0.1, f.1.0, f.1.1)
-      (pair_judged (is_too_large (sum_of a.import b.import)) (is_too_large (sum_of a.export b.export)) (sum_of a.import b.import) (sum_of a.export b.export))
+  abbrev sums : Day
+  sums = record { import = sum_of a.import b.import; export = sum_of a.export b.export }
 
-module _ (a b d : Day) (e : joined_days a b ≡ Accepted d) where
+  -- the tests left where every remainder is below 3,600
+  module _ (e : any_unreduced ≡ false) where
+    import_judged : joined a.import b.import ≡ cond (is_too_large (sum_of a.import b.import)) (Err SumTooLarge) (Ok (sum_of a.import b.import))
+    unfolding joined
+    import_judged =
+        let f = four (is_unreduced a.import) (is_unreduced b.import) (is_unreduced a.export) (is_unreduced b.export) e in
+        rw (f.0.0, f.0.1)
+
+    export_judged : joined a.export b.export ≡ cond (is_too_large (sum_of a.export b.export)) (Err SumTooLarge) (Ok (sum_of a.export b.export))
+    unfolding joined
+    export_judged =
+        let f = four (is_unreduced a.import) (is_unreduced b.import) (is_unreduced a.export) (is_unreduced b.export) e in
+        rw (f.1.0, f.1.1)
+
+    days_judged : joined_days a b ≡ up_to_limit sums
+    unfolding joined_days
+    days_judged = rw e
+
+    pub import_refused : (r : EnergyRefusal) → joined a.import b.import ≡ Err r → Err r ≡ joined_days a b
+    import_refused r p =
+        rw days_judged (go (is_too_large (sum_of a.import b.import)) (is_too_large (sum_of a.export b.export)) (sym import_judged ∙ p))
+      where
+        go : (g h : Bool) → cond g (Err SumTooLarge) (Ok (sum_of a.import b.import)) ≡ Err r
+            → Err r ≡ cond (g || h) (Err SumTooLarge) (Ok sums)
+        go true h q = cc
+        go false h q = cc
+
+    pub export_refused : (x : Energy) (r : EnergyRefusal) → joined a.import b.import ≡ Ok x → joined a.export b.export ≡ Err r → Err r ≡ joined_days a b
+    export_refused x r p q =
+        rw days_judged (go (is_too_large (sum_of a.import b.import)) (is_too_large (sum_of a.export b.export)) (sym import_judged ∙ p) (sym export_judged ∙ q))
+      where
+        go : (g h : Bool) → cond g (Err SumTooLarge) (Ok (sum_of a.import b.import)) ≡ Ok x → cond h (Err SumTooLarge) (Ok (sum_of a.export b.export)) ≡ Err r
+            → Err r ≡ cond (g || h) (Err SumTooLarge) (Ok sums)
+        go true h m n = cc
+        go false true m n = cc
+        go false false m n = cc
+
+    pub both_joined : (x y : Energy) → joined a.import b.import ≡ Ok x → joined a.export b.export ≡ Ok y → ◌≡◌ {A = Result Day EnergyRefusal} (Ok (record { import = x; export = y })) (joined_days a b)
+    both_joined x y p q =
+        rw days_judged (go (is_too_large (sum_of a.import b.import)) (is_too_large (sum_of a.export b.export)) (sym import_judged ∙ p) (sym export_judged ∙ q))
+      where
+        go : (g h : Bool) → cond g (Err SumTooLarge) (Ok (sum_of a.import b.import)) ≡ Ok x → cond h (Err SumTooLarge) (Ok (sum_of a.export b.export)) ≡ Ok y
+            → ◌≡◌ {A = Result Day EnergyRefusal} (Ok (record { import = x; export = y })) (cond (g || h) (Err SumTooLarge) (Ok sums))
+        go true h m n = cc
+        go false true m n = cc
+        go false false m n = cc
+
+module _ (a b d : Day) (e : joined_days a b ≡ Ok d) where
   joined_parts : ((((is_unreduced a.import || is_unreduced b.import) || is_unreduced a.export) || is_unreduced b.export) ≡ false)
       × (((is_too_large (sum_of a.import b.import) || is_too_large (sum_of a.export b.export)) ≡ false)
       × (record { import = sum_of a.import b.import; export = sum_of a.export b.export } ≡ d))
   unfolding joined_days
   joined_parts = taken _ _ _ d e
 
-  import_joined : joined a.import b.import ≡ one.Accepted d.import
+  import_joined : joined a.import b.import ≡ Ok d.import
   unfolding joined
   import_joined =
       let f = four (is_unreduced a.import) (is_unreduced b.import) (is_unreduced a.export) (is_unreduced b.export) joined_parts.0 in
-      rw (f.0.0, f.0.1, (neither (is_too_large (sum_of a.import b.import)) (is_too_large (sum_of a.export b.export)) joined_parts.1.0).0) (ap (λ (x : Day). one.Accepted x.import) joined_parts.1.1)
+      rw (f.0.0, f.0.1, (neither (is_too_large (sum_of a.import b.import)) (is_too_large (sum_of a.export b.export)) joined_parts.1.0).0) (ap (λ (x : Day). Ok x.import) joined_parts.1.1)
 
-  export_joined : joined a.export b.export ≡ one.Accepted d.export
+  export_joined : joined a.export b.export ≡ Ok d.export
   unfolding joined
   export_joined =
       let f = four (is_unreduced a.import) (is_unreduced b.import) (is_unreduced a.export) (is_unreduced b.export) joined_parts.0 in
-      rw (f.1.0, f.1.1, (neither (is_too_large (sum_of a.import b.import)) (is_too_large (sum_of a.export b.export)) joined_parts.1.0).1) (ap (λ (x : Day). one.Accepted x.export) joined_parts.1.1)
+      rw (f.1.0, f.1.1, (neither (is_too_large (sum_of a.import b.import)) (is_too_large (sum_of a.export b.export)) joined_parts.1.0).1) (ap (λ (x : Day). Ok x.export) joined_parts.1.1)
 
-pub sum_exact : (a b e : Energy) → joined a b ≡ one.Accepted e → ExactEnergy e (amount_of a + amount_of b)
+pub sum_exact : (a b e : Energy) → joined a b ≡ Ok e → ExactEnergy e (amount_of a + amount_of b)
 unfolding joined
 sum_exact a b e h =
-    rw (← one_taken (is_unreduced a || is_unreduced b) (is_too_large (sum_of a b)) (sum_of a b) e h, sum_is a b) (exactly (amount_of a + amount_of b))
+    rw (← (taken (is_unreduced a || is_unreduced b) (is_too_large (sum_of a b)) (sum_of a b) e h).1.1, sum_is a b) (exactly (amount_of a + amount_of b))
 
 -- the tests of two days, the days exchanged
 exchanged : (w x y z : Bool) → (((w || x) || y) || z) ≡ (((x || w) || z) || y)
-exchanged true true true true = refl
-exchanged true true true false = refl
-exchanged true true false true = refl
-exchanged true true false false = refl
-exchanged true false true true = refl
-exchanged true false true false = refl
-exchanged true false false true = refl
-exchanged true false false false = refl
-exchanged false true true true = refl
-exchanged false true true false = refl
-exchanged false true false true = refl
-exchanged false true false false = refl
-exchanged false false true true = refl
-exchanged false false true false = refl
-exchanged false false false true = refl
-exchanged false false false false = refl
+exchanged w x y z = rw (or_comm w x, or_assoc (x || w) y z, or_comm y z, ← or_assoc (x || w) z y)
 
 sum_exchanged : (a b : Energy) → sum_of a b ≡ sum_of b a
 sum_exchanged a b = λ i. record {
@@ -266,8 +283,8 @@ sum_exchanged a b = λ i. record {
 }
 
 -- the test of the remainders, and then that of the sums
-abbrev judged : Bool → Energy → Energy → Measured
-judged t x y = cond t (Refused 26) (up_to_limit (record { import = x; export = y }))
+abbrev judged : Bool → Energy → Energy → Result Day EnergyRefusal
+judged t x y = cond t (Err UnreducedRemainder) (up_to_limit (record { import = x; export = y }))
 
 commutes : (a b : Day) → joined_days a b ≡ joined_days b a
 unfolding joined_days
@@ -279,10 +296,10 @@ commutes a b =
 associates : (a b c : Day) → is_reduced a ≡ true → is_reduced b ≡ true → is_reduced c ≡ true
     → and_then (joined_days a b) (λ d. joined_days d c) ≡ and_then (joined_days b c) (λ d. joined_days a d)
 associates a b c p q r =
-    ap (λ (x : Measured). and_then x (λ d. joined_days d c)) (joined_reduced a b p q)
+    ap (λ (x : Result Day EnergyRefusal). and_then x (λ d. joined_days d c)) (joined_reduced a b p q)
     ∙ more (amount_of a.import + amount_of b.import) (amount_of a.export + amount_of b.export) c r
     ∙ ap₂ within (add_assoc (amount_of a.import) (amount_of b.import) (amount_of c.import)) (add_assoc (amount_of a.export) (amount_of b.export) (amount_of c.export))
-    ∙ sym (ap (λ (x : Measured). and_then x (λ d. joined_days a d)) (joined_reduced b c q r) ∙ other a (amount_of b.import + amount_of c.import) (amount_of b.export + amount_of c.export) p)
+    ∙ sym (ap (λ (x : Result Day EnergyRefusal). and_then x (λ d. joined_days a d)) (joined_reduced b c q r) ∙ other a (amount_of b.import + amount_of c.import) (amount_of b.export + amount_of c.export) p)
 
 pub join_laws : JoinLaws
 join_laws = record { sum_exact = sum_exact; import_joined = import_joined; export_joined = export_joined; days_joined = joined_reduced; commutes = commutes; associates = associates }

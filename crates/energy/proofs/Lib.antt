@@ -1,4 +1,3 @@
 pub mod Sums
-pub mod Negation
 pub mod Joins
 pub mod NearMisses

@@ -7,6 +7,7 @@ use Rattle.energy.specs.NearMisses.{NearMisses}
 pub near_misses : NearMisses
 unfolding total measured joined joined_days
 near_misses = record {
+  numbers = refl;
   by_hand = refl;
   lowest_power = refl;
   remainders = refl;

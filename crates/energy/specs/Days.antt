@@ -1,9 +1,10 @@
 -- The energy of a day (document 02, A11).
-use Rattle.std.specs.Prelude.{ℕ, ◌+◌, cond, List, [], ◌∷◌, ltb, ℤ, length}
+use Rattle.std.specs.Prelude.{ℕ, ◌+◌, cond, List, [], ◌∷◌, ltb, ℤ, length, Result, Ok, Err}
 use Rattle.base.specs.Numbers.{positive_part, negative_part}
 use Rattle.energy.specs.declared.Day.{Day}
-use Rattle.energy.specs.declared.Measured.{Measured}
-use Rattle.energy.specs.declared.Measured.TheVariants.{Accepted, Refused}
+use Rattle.energy.specs.declared.EnergyRefusal.{EnergyRefusal}
+use Rattle.energy.specs.declared.EnergyRefusal.TheVariants.{TooManySamples}
+use Rattle.energy.specs.Refusals.{refusal_number}
 use Rattle.energy.specs.Energy.{energy_of}
 
 -- the watt-seconds of samples, one a second, by what each power counts
@@ -16,10 +17,10 @@ abbrev pub day_of : List ℤ → Day
 day_of xs = record { import = energy_of (total positive_part xs); export = energy_of (total negative_part xs) }
 
 -- 0, or the number of the refusal
-abbrev pub measured_number : Measured → ℕ
-measured_number (Accepted d) = 0
-measured_number (Refused n) = n
+abbrev pub measured_number : Result Day EnergyRefusal → ℕ
+measured_number (Ok d) = 0
+measured_number (Err e) = refusal_number e
 
 -- 'From up to 86,400 samples ..'; '25, too many samples'
-unfoldable pub measured : List ℤ → Measured
-measured xs = cond (ltb 86400 (length xs)) (Refused 25) (Accepted (day_of xs))
+unfoldable pub measured : List ℤ → Result Day EnergyRefusal
+measured xs = cond (ltb 86400 (length xs)) (Err TooManySamples) (Ok (day_of xs))

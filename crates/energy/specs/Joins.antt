@@ -1,11 +1,10 @@
 -- Energies joined (document 02, A11): 'the joined pair is that of all samples together'.
-use Rattle.std.specs.Prelude.{ℕ, ◌+◌, ◌/◌, ◌%◌, Bool, cond, ◌||◌, leb, ltb}
+use Rattle.std.specs.Prelude.{ℕ, ◌+◌, ◌/◌, ◌%◌, Bool, cond, ◌||◌, leb, ltb, Result, Ok, Err}
 use Rattle.energy.specs.declared.Energy.{Energy}
-use Rattle.energy.specs.declared.Joined.{Joined}
-use Rattle.energy.specs.declared.Joined.TheVariants as one
 use Rattle.energy.specs.declared.Day.{Day}
-use Rattle.energy.specs.declared.Measured.{Measured}
-use Rattle.energy.specs.declared.Measured.TheVariants.{Accepted, Refused}
+use Rattle.energy.specs.declared.EnergyRefusal.{EnergyRefusal}
+use Rattle.energy.specs.declared.EnergyRefusal.TheVariants.{UnreducedRemainder, SumTooLarge}
+use Rattle.energy.specs.Refusals.{refusal_number}
 
 -- '26, a remainder of 3,600 or more'
 abbrev pub is_unreduced : Energy → Bool
@@ -31,26 +30,20 @@ sum_of a b =
     }
 
 -- 0, or the number of the refusal
-abbrev pub joined_number : Joined → ℕ
-joined_number (one.Accepted e) = 0
-joined_number (one.Refused n) = n
+abbrev pub joined_number : Result Energy EnergyRefusal → ℕ
+joined_number (Ok e) = 0
+joined_number (Err e) = refusal_number e
 
 -- one direction
-unfoldable pub joined : Energy → Energy → Joined
+unfoldable pub joined : Energy → Energy → Result Energy EnergyRefusal
 joined a b =
-    cond (is_unreduced a || is_unreduced b) (one.Refused 26)
-    (cond (is_too_large (sum_of a b)) (one.Refused 27)
-    (one.Accepted (sum_of a b)))
+    cond (is_unreduced a || is_unreduced b) (Err UnreducedRemainder)
+    (cond (is_too_large (sum_of a b)) (Err SumTooLarge)
+    (Ok (sum_of a b)))
 
 -- both directions of two days: 26 for any of the four remainders, then 27 for either sum
-unfoldable pub joined_days : Day → Day → Measured
+unfoldable pub joined_days : Day → Day → Result Day EnergyRefusal
 joined_days a b =
-    cond (((is_unreduced a.import || is_unreduced b.import) || is_unreduced a.export) || is_unreduced b.export) (Refused 26)
-    (cond (is_too_large (sum_of a.import b.import) || is_too_large (sum_of a.export b.export)) (Refused 27)
-    (Accepted (record { import = sum_of a.import b.import; export = sum_of a.export b.export })))
-
--- the day of two sums, or the first refusal: what the code makes of two directions
-abbrev pub paired : Joined → Joined → Measured
-paired (one.Refused n) y = Refused n
-paired (one.Accepted a) (one.Refused n) = Refused n
-paired (one.Accepted a) (one.Accepted b) = Accepted (record { import = a; export = b })
+    cond (((is_unreduced a.import || is_unreduced b.import) || is_unreduced a.export) || is_unreduced b.export) (Err UnreducedRemainder)
+    (cond (is_too_large (sum_of a.import b.import) || is_too_large (sum_of a.export b.export)) (Err SumTooLarge)
+    (Ok (record { import = sum_of a.import b.import; export = sum_of a.export b.export })))

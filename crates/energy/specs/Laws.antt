@@ -1,12 +1,11 @@
 -- What days and joins satisfy.
-use Rattle.std.specs.Prelude.{◌≡◌, Bool, true, cond, not, ◌||◌, ◌&&◌, List, [], ◌∷◌, ◌++◌, ℕ, ◌+◌, ◌*◌, ◌<◌, ◌≤◌, leb, ℤ, pos, negsuc, ◌+ℤ◌, ◌-ℤ◌, length}
+use Rattle.std.specs.Prelude.{◌≡◌, Bool, true, cond, not, ◌||◌, ◌&&◌, List, [], ◌∷◌, ◌++◌, ℕ, ◌+◌, ◌*◌, ◌<◌, ◌≤◌, leb, ℤ, pos, negsuc, ◌+ℤ◌, ◌-ℤ◌, length, Result, Ok, Err}
 use Rattle.base.specs.Numbers.{positive_part, negative_part}
 use Rattle.base.specs.Tests.{every}
 use Rattle.energy.specs.declared.Energy.{Energy}
 use Rattle.energy.specs.declared.Day.{Day}
-use Rattle.energy.specs.declared.Joined.TheVariants as one
-use Rattle.energy.specs.declared.Measured.{Measured}
-use Rattle.energy.specs.declared.Measured.TheVariants.{Accepted, Refused}
+use Rattle.energy.specs.declared.EnergyRefusal.{EnergyRefusal}
+use Rattle.energy.specs.declared.EnergyRefusal.TheVariants.{TooManySamples, SumTooLarge}
 use Rattle.energy.specs.Energy.{energy_of, amount_of}
 use Rattle.energy.specs.Days.{total, day_of, measured}
 use Rattle.energy.specs.Joins.{is_unreduced, is_too_large, joined, joined_days}
@@ -17,9 +16,9 @@ pub record ExactEnergy (e : Energy) (n : ℕ) : Type 0 where
   pub remainder : e.wattseconds < 3600
 
 -- a result is joined on; a refusal stays
-abbrev pub and_then : Measured → (Day → Measured) → Measured
-and_then (Accepted d) k = k d
-and_then (Refused n) k = Refused n
+abbrev pub and_then : Result Day EnergyRefusal → (Day → Result Day EnergyRefusal) → Result Day EnergyRefusal
+and_then (Ok d) k = k d
+and_then (Err e) k = Err e
 
 -- days, of one berth or of several, joined two by two in any bracketing
 pub data Bracketing : Type 0 where
@@ -41,13 +40,13 @@ are_days (day xs) = leb (length xs) 86400 && every is_power xs
 are_days (join s t) = are_days s && are_days t
 
 -- what comes of measuring each day and joining them so
-unfoldable pub joined_in : Bracketing → Measured
+unfoldable pub joined_in : Bracketing → Result Day EnergyRefusal
 joined_in (day xs) = measured xs
 joined_in (join s t) = and_then (joined_in s) (λ a. and_then (joined_in t) (λ b. joined_days a b))
 
 -- a day, unless its whole watt-hours are above 2^53
-abbrev pub up_to_limit : Day → Measured
-up_to_limit d = cond (is_too_large d.import || is_too_large d.export) (Refused 27) (Accepted d)
+abbrev pub up_to_limit : Day → Result Day EnergyRefusal
+up_to_limit d = cond (is_too_large d.import || is_too_large d.export) (Err SumTooLarge) (Ok d)
 
 -- all powers added, imports and exports cancelling
 unfoldable pub net : List ℤ → ℤ
@@ -57,8 +56,8 @@ net (x ∷ xs) = x +ℤ net xs
 -- of the energy of a day
 pub record Laws : Type 0 where
   -- '25, too many samples', and no other refusal
-  pub too_many : (xs : List ℤ) → 86400 < length xs → measured xs ≡ Refused 25
-  pub up_to_86400 : (xs : List ℤ) → length xs ≤ 86400 → measured xs ≡ Accepted (day_of xs)
+  pub too_many : (xs : List ℤ) → 86400 < length xs → measured xs ≡ Err TooManySamples
+  pub up_to_86400 : (xs : List ℤ) → length xs ≤ 86400 → measured xs ≡ Ok (day_of xs)
   -- 'as watt-hours and a remainder of watt-seconds below 3,600'
   pub import_exact : (xs : List ℤ) → ExactEnergy (day_of xs).import (total positive_part xs)
   pub export_exact : (xs : List ℤ) → ExactEnergy (day_of xs).export (total negative_part xs)
@@ -77,10 +76,10 @@ is_reduced d = not (is_unreduced d.import) && not (is_unreduced d.export)
 -- of joins
 pub record JoinLaws : Type 0 where
   -- nothing is lost: the sum is exact in each direction, and reduced
-  pub sum_exact : (a b e : Energy) → joined a b ≡ one.Accepted e
+  pub sum_exact : (a b e : Energy) → joined a b ≡ Ok e
       → ExactEnergy e (3600 * a.watthours + a.wattseconds + (3600 * b.watthours + b.wattseconds))
-  pub import_joined : (a b d : Day) → joined_days a b ≡ Accepted d → joined a.import b.import ≡ one.Accepted d.import
-  pub export_joined : (a b d : Day) → joined_days a b ≡ Accepted d → joined a.export b.export ≡ one.Accepted d.export
+  pub import_joined : (a b d : Day) → joined_days a b ≡ Ok d → joined a.import b.import ≡ Ok d.import
+  pub export_joined : (a b d : Day) → joined_days a b ≡ Ok d → joined a.export b.export ≡ Ok d.export
   -- of any two days whose remainders are below 3,600: 27 where the whole watt-hours of a sum are above 2^53, and otherwise both sums
   pub days_joined : (a b : Day) → is_reduced a ≡ true → is_reduced b ≡ true
       → joined_days a b

@@ -1,3 +1,4 @@
+pub mod Refusals
 pub mod Energy
 pub mod Days
 pub mod Joins

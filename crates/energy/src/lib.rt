@@ -4,6 +4,7 @@
 
 ghost use Rattle.std.specs.Prelude.{◌≡◌, ◌+◌};
 ghost use Rattle.base.specs.Numbers.{positive_part, negative_part};
+ghost use Rattle.energy.specs.Refusals.{refusal_number};
 ghost use Rattle.energy.specs.Energy.{energy_of};
 ghost use Rattle.energy.specs.Days.{measured};
 ghost use Rattle.energy.specs.Laws.{Laws};
@@ -26,21 +27,32 @@ pub struct Day {
     pub export: Energy,
 }
 
-// What comes of measuring a day, or of joining days.
-#[derive(Clone, Copy)]
-pub enum Measured {
-    Accepted(Day),
-    // The number of the refusal.
-    Refused(u8),
+// Why a day is not measured, or energies are not joined.
+#[derive(Clone, Copy, Debug, PartialEq, Eq)]
+pub enum EnergyRefusal {
+    // More than 86,400.
+    TooManySamples,
+    // A remainder of 3,600 watt-seconds or more.
+    UnreducedRemainder,
+    // Whole watt-hours above 2^53.
+    SumTooLarge,
 }
 
-// What comes of joining two energies.
-#[derive(Clone, Copy)]
-pub enum Joined {
-    Accepted(Energy),
-    // The number of the refusal.
-    Refused(u8),
+impl EnergyRefusal {
+    // The document's number.
+    pub fn number(self) -> u8
+        ensures { result ≡ refusal_number self }
+    {
+        match self {
+            EnergyRefusal::TooManySamples => 25,
+            EnergyRefusal::UnreducedRemainder => 26,
+            EnergyRefusal::SumTooLarge => 27,
+        }
+    }
 }
+
+// A day has so many seconds.
+const MOST_SAMPLES: usize = 86400;
 
 // So many watt-seconds as whole watt-hours and a remainder.
 fn energy_of(amount: u64) -> Energy
@@ -57,30 +69,27 @@ fn energy_of(amount: u64) -> Energy
 fn below_highest(power: i32) -> u32
     ensures { result + positive_part power ≡ negative_part power + 2147483647 }
 {
-    (-(power as i64) + 2147483647) as u32
+    (-i64::from(power) + 2147483647) as u32
 }
 
 // Import and export of up to 86,400 samples: 25 for more. The export is the import less the sum of all
 // powers, so that a sample takes one test and two additions.
-pub fn measure(samples: &[i32]) -> Measured
+pub fn measure(samples: &[i32]) -> Result<Day, EnergyRefusal>
     ensures value { result ≡ measured samples.now }
     ensures laws { Laws }
 {
-    let n = samples.len();
-    if 86400 < n {
-        return Measured::Refused(25);
+    if MOST_SAMPLES < samples.len() {
+        return Err(EnergyRefusal::TooManySamples);
     }
-    let mut import: u64 = 0;
-    let mut distance: u64 = 0;
-    let mut i = 0;
-    while i < n {
-        import += base::positive_part(samples[i]) as u64;
-        distance += below_highest(samples[i]) as u64;
-        i += 1;
+    let mut import = 0;
+    let mut distance = 0;
+    for &power in samples {
+        import += u64::from(base::positive_part(power));
+        distance += u64::from(below_highest(power));
     }
     // A distance is the highest power and the export, less the import.
-    let export = import + distance - (n as u64) * 2147483647;
-    Measured::Accepted(Day {
+    let export = import + distance - (samples.len() as u64) * 2147483647;
+    Ok(Day {
         import: energy_of(import),
         export: energy_of(export),
     })

@@ -4,38 +4,28 @@ ghost use Rattle.std.specs.Prelude.{◌≡◌};
 ghost use Rattle.tariff.specs.Bills.{billed};
 ghost use Rattle.pillar.specs.Tariff.{imports_in, Billing, BillLaws};
 
+use crate::day::energy_at;
 use energy::Energy;
-use tariff::Billed;
+use tariff::{Charge, TariffRefusal};
 
 fn imports_in(imports: &[u64; 8]) -> [Energy; 4]
     ensures { result ≡ imports_in imports.now }
 {
-    let first = Energy {
-        watthours: imports[0],
-        wattseconds: imports[1],
-    };
-    let second = Energy {
-        watthours: imports[2],
-        wattseconds: imports[3],
-    };
-    let third = Energy {
-        watthours: imports[4],
-        wattseconds: imports[5],
-    };
-    let fourth = Energy {
-        watthours: imports[6],
-        wattseconds: imports[7],
-    };
-    [first, second, third, fourth]
+    [
+        energy_at(imports, 0),
+        energy_at(imports, 2),
+        energy_at(imports, 4),
+        energy_at(imports, 6),
+    ]
 }
 
 // Leaves the rest for the next bill and the cents of one that is not refused.
-fn settle(bill: Billed, rest: &mut u32, cents: &mut u64) -> u32
+fn settle(bill: Result<Charge, TariffRefusal>, rest: &mut u32, cents: &mut u64) -> u32
     ensures { Billing bill rest.old cents.old result rest.new cents.new }
 {
     match bill {
-        Billed::Refused(number) => number as u32,
-        Billed::Accepted(charge) => {
+        Err(refusal) => u32::from(refusal.number()),
+        Ok(charge) => {
             *rest = charge.rest;
             *cents = charge.cents;
             0
@@ -55,7 +45,9 @@ pub extern "C" fn tariff_bill(
     ensures billing { Billing (billed rest.old prices.now (imports_in imports.now)) rest.old cents.old result rest.new cents.new }
     ensures laws { BillLaws }
 {
-    let before = *rest;
-    let at = *prices;
-    settle(tariff::bill(before, at, imports_in(imports)), rest, cents)
+    settle(
+        tariff::bill(*rest, *prices, imports_in(imports)),
+        rest,
+        cents,
+    )
 }

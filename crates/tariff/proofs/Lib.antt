@@ -1,3 +1,4 @@
 pub mod Costs
+pub mod AllRates
 pub mod Rows
 pub mod NearMisses

@@ -5,14 +5,14 @@ use native.Mathlib.Nat.{mul-add, mul-zero}
 use lib.IntN.{ℤ}
 use Rattle.base.specs.Numbers.{positive_part}
 use Rattle.energy.specs.declared.Energy.{Energy}
-use Rattle.energy.specs.declared.Joined.{Joined}
-use Rattle.energy.specs.declared.Joined.TheVariants as one
+use Rattle.energy.specs.declared.EnergyRefusal.{EnergyRefusal}
+use Rattle.std.specs.Prelude.{Result, Ok, Err}
 use Rattle.energy.specs.Energy.{energy_of, amount_of}
 use Rattle.energy.specs.Days.{total, day_of}
 use Rattle.energy.proofs.Sums.{total_append}
 use Rattle.energy.proofs.Joins.{amount_of_lem, sum_exact}
 use Rattle.tariff.specs.declared.Charge.{Charge}
-use Rattle.tariff.specs.declared.Billed.TheVariants.{Accepted, Refused}
+use Rattle.tariff.specs.declared.TariffRefusal.TheVariants.{PriceTooHigh, RestTooLarge, ImportOutOfRange}
 use Rattle.tariff.specs.Charges.{price_at, import_at, sum_below, costs, charge_of, with_rate}
 use Rattle.tariff.specs.Bills.{are_prices, are_imports, billed}
 use Rattle.tariff.specs.Laws.{ExactCharge, charged, after_rates, Row, none, next, at_prices, energy_at, joined_to, joined_at, imports_of, samples_at, Laws}
@@ -35,13 +35,13 @@ after zero rest ps es h = rest_only rest h
 after (suc k) rest ps es h = ap (λ (c : Charge). with_rate c (price_at ps k) (import_at es k)) (after k rest ps es h) ∙ rate_next rest k ps es
 
 -- ---- an accepted bill
-taken : (x y z : Bool) (d c : Charge) → cond x (Refused 28) (cond y (Refused 29) (cond z (Refused 30) (Accepted d))) ≡ Accepted c → (y ≡ false) × (c ≡ d)
-taken true y z d c e = let f : ◌≡◌ {A = ℕ} 0 1 = cc in absurd (omega arith)
-taken false true z d c e = let f : ◌≡◌ {A = ℕ} 0 1 = cc in absurd (omega arith)
-taken false false true d c e = let f : ◌≡◌ {A = ℕ} 0 1 = cc in absurd (omega arith)
+taken : (x y z : Bool) (d c : Charge) → cond x (Err PriceTooHigh) (cond y (Err RestTooLarge) (cond z (Err ImportOutOfRange) (Ok d))) ≡ Ok c → (y ≡ false) × (c ≡ d)
+taken true y z d c e = cc
+taken false true z d c e = cc
+taken false false true d c e = cc
 taken false false false d c e = (refl, cc)
 
-module _ (rest : ℕ) (ps : List ℕ) (es : List Energy) (c : Charge) (e : billed rest ps es ≡ Accepted c) where
+module _ (rest : ℕ) (ps : List ℕ) (es : List Energy) (c : Charge) (e : billed rest ps es ≡ Ok c) where
   tested : (leb 3600000 rest ≡ false) × (c ≡ charge_of (rest + costs 4 ps es))
   unfolding billed
   tested = taken (not (are_prices ps)) (leb 3600000 rest) (not (are_imports es)) (charge_of (rest + costs 4 ps es)) c e
@@ -105,15 +105,15 @@ module _ (ps : List ℕ) where
   same f g h = sum_ext 4 (λ j. price_at ps j * f j) (λ j. price_at ps j * g j) (λ j l. ap (λ (n : ℕ). price_at ps j * n) (h j l))
 
 -- joined: the sum is exact
-joined_amount : (ess : List (List Energy)) (k : ℕ) (e : Energy) → joined_at ess k ≡ one.Accepted e → energy_at ess k ≡ amount_of e
+joined_amount : (ess : List (List Energy)) (k : ℕ) (e : Energy) → joined_at ess k ≡ Ok e → energy_at ess k ≡ amount_of e
 unfolding joined_at energy_at
 joined_amount [] k e h = let z : energy_of 0 ≡ e = cc in ap amount_of z
 joined_amount (es ∷ ess) k e h = go (joined_at ess k) (λ s p. joined_amount ess k s p) h
   where
-    go : (j : Joined) → ((s : Energy) → j ≡ one.Accepted s → energy_at ess k ≡ amount_of s) → joined_to (import_at es k) j ≡ one.Accepted e
+    go : (j : Result Energy EnergyRefusal) → ((s : Energy) → j ≡ Ok s → energy_at ess k ≡ amount_of s) → joined_to (import_at es k) j ≡ Ok e
         → amount_of (import_at es k) + energy_at ess k ≡ amount_of e
-    go (one.Accepted s) p q = ap (λ (n : ℕ). amount_of (import_at es k) + n) (p s refl) ∙ sym (sum_exact (import_at es k) s e q).amount
-    go (one.Refused n) p q = let z : ◌≡◌ {A = ℕ} 0 1 = cc in absurd (omega arith)
+    go (Ok s) p q = ap (λ (n : ℕ). amount_of (import_at es k) + n) (p s refl) ∙ sym (sum_exact (import_at es k) s e q).amount
+    go (Err r) p q = cc
 
 -- samples: an import is the sum of the powers above zero
 import_amount : (xss : List (List ℤ)) (k : ℕ) → amount_of (import_at (imports_of xss) k) ≡ total positive_part (get_or xss k [])

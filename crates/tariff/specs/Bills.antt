@@ -1,9 +1,11 @@
 -- One bill, and where it is refused (document 02, A12).
-use Rattle.std.specs.Prelude.{ℕ, ◌+◌, Bool, ◌&&◌, not, cond, List, leb, ltb}
+use Rattle.std.specs.Prelude.{ℕ, ◌+◌, Bool, ◌&&◌, not, cond, List, leb, ltb, Result, Ok, Err}
 use Rattle.base.specs.Tests.{below}
 use Rattle.energy.specs.declared.Energy.{Energy}
-use Rattle.tariff.specs.declared.Billed.{Billed}
-use Rattle.tariff.specs.declared.Billed.TheVariants.{Accepted, Refused}
+use Rattle.tariff.specs.declared.Charge.{Charge}
+use Rattle.tariff.specs.declared.TariffRefusal.{TariffRefusal}
+use Rattle.tariff.specs.declared.TariffRefusal.TheVariants.{PriceTooHigh, RestTooLarge, ImportOutOfRange}
+use Rattle.tariff.specs.Refusals.{refusal_number}
 use Rattle.tariff.specs.Charges.{price_at, import_at, costs, charge_of}
 
 -- '28, price above 1,000,000'
@@ -22,14 +24,14 @@ abbrev pub are_imports : List Energy → Bool
 are_imports es = below 4 (λ k. is_import (import_at es k))
 
 -- 0, or the number of the refusal
-abbrev pub billed_number : Billed → ℕ
-billed_number (Accepted c) = 0
-billed_number (Refused n) = n
+abbrev pub billed_number : Result Charge TariffRefusal → ℕ
+billed_number (Ok c) = 0
+billed_number (Err e) = refusal_number e
 
 -- 28, 29, 30 in that order; '29, incoming rest of 3,600,000 or more'
-unfoldable pub billed : ℕ → List ℕ → List Energy → Billed
+unfoldable pub billed : ℕ → List ℕ → List Energy → Result Charge TariffRefusal
 billed rest ps es =
-    cond (not (are_prices ps)) (Refused 28)
-    (cond (leb 3600000 rest) (Refused 29)
-    (cond (not (are_imports es)) (Refused 30)
-    (Accepted (charge_of (rest + costs 4 ps es)))))
+    cond (not (are_prices ps)) (Err PriceTooHigh)
+    (cond (leb 3600000 rest) (Err RestTooLarge)
+    (cond (not (are_imports es)) (Err ImportOutOfRange)
+    (Ok (charge_of (rest + costs 4 ps es)))))

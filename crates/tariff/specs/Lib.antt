@@ -1,3 +1,4 @@
+pub mod Refusals
 pub mod Charges
 pub mod Bills
 pub mod Laws

@@ -1,8 +1,7 @@
 -- Bills at the edge of each refusal, and bills by hand. Computed.
-use Rattle.std.specs.Prelude.{◌≡◌, List, [], ◌∷◌, map, ℕ, replicate, set}
+use Rattle.std.specs.Prelude.{◌≡◌, List, [], ◌∷◌, map, ℕ, replicate, set, Ok}
 use Rattle.energy.specs.declared.Energy.{Energy}
 use Rattle.tariff.specs.declared.Charge.{Charge}
-use Rattle.tariff.specs.declared.Billed.TheVariants.{Accepted}
 use Rattle.tariff.specs.Bills.{billed_number, billed}
 
 abbrev pub energy : ℕ → ℕ → Energy
@@ -35,6 +34,6 @@ pub record NearMisses : Type 0 where
   pub rest_second : billed_number (billed 3600000 (prices_but 3 0) (imports_but 0 (energy 0 3600))) ≡ 29
   -- by hand: 30 cents for a kilowatt-hour, 25 for one and half a watt-hour, 20 for a watt-second, nothing for the last; the rest makes a cent more
   pub by_hand : billed 3599990 (30 ∷ 25 ∷ 20 ∷ 0 ∷ []) (energy 1000 0 ∷ energy 1000 1800 ∷ energy 0 1 ∷ energy 5 5 ∷ [])
-      ≡ Accepted (charge 56 45010)
+      ≡ Ok (charge 56 45010)
   -- the largest bill: in parts of a cent 30,923,764,545,599,599,999, above 2^64
-  pub largest : billed 3599999 (prices_but 4 0) (imports_but 4 (energy 0 0)) ≡ Accepted (charge 8589934595999 3199999)
+  pub largest : billed 3599999 (prices_but 4 0) (imports_but 4 (energy 0 0)) ≡ Ok (charge 8589934595999 3199999)

@@ -13,7 +13,7 @@ fn with_rate(charge: Charge, price: u32, import: Energy) -> Charge
     ensures { (result ≡ with_rate charge price import) × (result.cents ≤ charge.cents + 2147483649000) }
 {
     let amount = 3600 * import.watthours + import.wattseconds;
-    let parts = (charge.rest as u64) + (price as u64) * amount;
+    let parts = u64::from(charge.rest) + u64::from(price) * amount;
     let cents = charge.cents + parts / 3600000;
     let rest = (parts % 3600000) as u32;
     Charge { cents, rest }
@@ -24,10 +24,8 @@ pub(crate) fn charge(rest: u32, prices: [u32; 4], imports: [Energy; 4]) -> Charg
     ensures { result ≡ charge_of (rest + costs 4 prices imports) }
 {
     let mut sum = Charge { cents: 0, rest };
-    let mut k = 0;
-    while k < 4 {
-        sum = with_rate(sum, prices[k], imports[k]);
-        k += 1;
+    for (&price, &import) in prices.iter().zip(&imports) {
+        sum = with_rate(sum, price, import);
     }
     sum
 }

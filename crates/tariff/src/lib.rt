@@ -3,6 +3,7 @@
 #![tactic(auto)]
 
 ghost use Rattle.std.specs.Prelude.{◌≡◌};
+ghost use Rattle.tariff.specs.Refusals.{refusal_number};
 ghost use Rattle.tariff.specs.Bills.{billed};
 ghost use Rattle.tariff.specs.Laws.{Laws};
 ghost use Rattle.tariff.specs.NearMisses.{NearMisses};
@@ -20,29 +21,46 @@ pub struct Charge {
     pub rest: u32,
 }
 
-#[derive(Clone, Copy)]
-pub enum Billed {
-    Accepted(Charge),
-    // The number of the refusal.
-    Refused(u8),
+// Why there is no bill.
+#[derive(Clone, Copy, Debug, PartialEq, Eq)]
+pub enum TariffRefusal {
+    // A price above 1,000,000.
+    PriceTooHigh,
+    // An incoming rest of 3,600,000 or more.
+    RestTooLarge,
+    // An import of whole watt-hours above 2^31, or with a remainder of 3,600 or more.
+    ImportOutOfRange,
+}
+
+impl TariffRefusal {
+    // The document's number.
+    pub fn number(self) -> u8
+        ensures { result ≡ refusal_number self }
+    {
+        match self {
+            TariffRefusal::PriceTooHigh => 28,
+            TariffRefusal::RestTooLarge => 29,
+            TariffRefusal::ImportOutOfRange => 30,
+        }
+    }
 }
 
 // One bill, of imports at prices in cents per kilowatt-hour: 28 for a price above 1,000,000, 29 for an
 // incoming rest of 3,600,000 or more, 30 if an import's whole watt-hours are above 2^31 or its remainder
 // is 3,600 or more.
-pub fn bill(rest: u32, prices: [u32; 4], imports: [Energy; 4]) -> Billed
+pub fn bill(rest: u32, prices: [u32; 4], imports: [Energy; 4]) -> Result<Charge, TariffRefusal>
     ensures value { result ≡ billed rest prices imports }
     ensures laws { Laws }
     ensures near_misses { NearMisses }
 {
     if !limits::are_prices(prices) {
-        return Billed::Refused(28);
+        return Err(TariffRefusal::PriceTooHigh);
     }
     if 3600000 <= rest {
-        return Billed::Refused(29);
+        return Err(TariffRefusal::RestTooLarge);
     }
     if !limits::are_imports(imports) {
-        return Billed::Refused(30);
+        return Err(TariffRefusal::ImportOutOfRange);
     }
-    Billed::Accepted(charges::charge(rest, prices, imports))
+    Ok(charges::charge(rest, prices, imports))
 }

@@ -19,23 +19,11 @@ fn is_import(import: Energy) -> bool
 pub(crate) fn are_prices(prices: [u32; 4]) -> bool
     ensures { result ≡ are_prices prices }
 {
-    let mut ok = true;
-    let mut k = 0;
-    while k < 4 {
-        ok = ok & is_price(prices[k]);
-        k += 1;
-    }
-    ok
+    prices.iter().all(|&price| is_price(price))
 }
 
 pub(crate) fn are_imports(imports: [Energy; 4]) -> bool
     ensures { result ≡ are_imports imports }
 {
-    let mut ok = true;
-    let mut k = 0;
-    while k < 4 {
-        ok = ok & is_import(imports[k]);
-        k += 1;
-    }
-    ok
+    imports.iter().all(|&import| is_import(import))
 }

@@ -8,13 +8,13 @@ most : (c : Start) → c.args.price * (3600 * c.args.import.watthours + c.args.i
 most c = cost_most c.args.price c.args.import.watthours c.args.import.wattseconds c.requires.1.0 c.requires.1.1.0 c.requires.1.1.1
 
 pub overflow_mul-parts : goal.overflow_mul-parts
-overflow_mul-parts c = record { fits = omega (arith, most c.before.before.before) }
+overflow_mul-parts c = rw c.from-2.ensures (record { fits = omega (arith, most (goal.at.overflow_mul-parts c).Start) })
 
 pub overflow_add-parts : goal.overflow_add-parts
-overflow_add-parts c = record { fits = omega (arith, most c.before.before.before) }
+overflow_add-parts c = rw (c.from-2.ensures, c.from.ensures) (record { fits = omega (arith, most (goal.at.overflow_add-parts c).Start) })
 
 pub overflow_add-cents : goal.overflow_add-cents
-overflow_add-cents c = record { fits = omega (arith, most c.before.before.before.before) }
+overflow_add-cents c = rw (c.from-2.ensures, c.from.ensures) (record { fits = omega (arith, most (goal.at.overflow_add-cents c).Start) })
 
 pub returns : goal.returns
-returns c = (refl, omega (arith, most c.before.before.before.before))
+returns c = rw (c.from-2.ensures, c.from.ensures) (refl, omega (arith, most (goal.at.returns c).Start))
