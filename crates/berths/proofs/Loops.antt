@@ -1,31 +1,27 @@
 -- What the two loops along the berths compute is what the definitions say of the list.
---     counting, sharing, given     what the functions on numbers say of a berth
---     counted_next, counted-all    the first loop: the berths behind i have still to be counted
---     filling                      the first p berths of a list with their shares
---     filled_next, filled-all      the second loop: the berths behind j have still to be filled
+--     counted_next, counted_all    the first loop: the berths behind i have still to be counted
+--     filled_next, filled_all      the second loop: the berths behind i have still to be filled
 --     carried                      what the first loop carries, of the whole list
---     seen                         the berths that are read
---     judged-number, judged        what comes of the column
-use Rattle.base.proofs.Prelude.{◌≡◌, refl, sym, ap, ◌∙◌, Bool, true, false, ◌||◌, cond, or-false, or-true, List, [], ◌∷◌, ◌++◌, append_assoc, ℕ, zero, suc}
+--     refused_count, shared, refused   what is answered, and the berths afterwards: by their count, by what is left over, by a refusal
+use Rattle.base.proofs.Prelude.{◌≡◌, refl, sym, ap, ◌∙◌, Bool, true, false, ◌||◌, or-false, List, [], ◌∷◌, ◌++◌, append_assoc, ℕ, suc}
 use Rattle.base.proofs.Prelude.{◌+◌, ◌-◌}
-use Rattle.base.proofs.Prelude.{◌<◌, ◌≤◌, add-one, arith, eqb, ltb, ℤ, length, take, drop, get_or, set, take-append-drop, take_all, length-take-le}
+use Rattle.base.proofs.Prelude.{◌<◌, ◌≤◌, add-one, arith, ltb, ℤ, length, take, drop, get_or, set, take_all, append-nil}
 use Rattle.base.proofs.Prelude.{drop_of_length-le, drop-cons}
 use Rattle.base.proofs.Prelude.{lt-ltb, le-ltb, ltb-true, ltb-false, any}
 use mathlib.Core.Bool.{or_assoc}
-use lib.Seq.{take-suc-set, drop-set-lt, get_or-take}
+use lib.Seq.{take-suc-set, drop-set-lt}
 use Rattle.base.specs.Numbers.{positive_part}
+use Rattle.std.specs.Prelude.{Result, Ok, Err}
+use Rattle.calls.specs.declared.Answer.{Answer}
+use Rattle.calls.specs.declared.Answer.TheVariants.{Accepted, Refused}
 use Rattle.berths.specs.declared.Berth.{Berth}
+use Rattle.berths.specs.declared.ColumnRefusal.{ColumnRefusal}
 use Rattle.berths.specs.declared.Column.{Column}
-use Rattle.berths.specs.declared.Share.{Share}
-use Rattle.berths.specs.Allotments.{first_part, sum, guarantees, any_faulty, is_faulty, allotted, refusal, filled}
-use Rattle.berths.specs.Counting.{at_limit, with_berth, readable, with_berths, refusal_in, places_for, judged_of, share_of}
-
--- one berth more
-abbrev pub counting : Column → Berth → Column
-counting c b = with_berth c b.guarantee b.cap b.demand
+use Rattle.berths.specs.Allotments.{first_part, with_allotment, sum, guarantees, any_faulty, is_faulty, allotted, refusal, filled}
+use Rattle.berths.specs.Counting.{is_wrong_count, at_limit, with_berth, with_berths, left_over, refusal_number, answered, share_of}
 
 module _ (xs : List Berth) (i : ℕ) (d : Berth) (c last : Column) where
-  pub counted_next : i < length xs → with_berths c (drop i xs) ≡ last → with_berths (counting c (get_or xs i d)) (drop (i + 1) xs) ≡ last
+  pub counted_next : i < length xs → with_berths c (drop i xs) ≡ last → with_berths (with_berth c (get_or xs i d)) (drop (i + 1) xs) ≡ last
   unfolding with_berths
   counted_next h e = rw add-one (rw (drop-cons xs i d h) at e)
 
@@ -33,49 +29,22 @@ module _ (xs : List Berth) (i : ℕ) (d : Berth) (c last : Column) where
   unfolding with_berths
   counted_all h e = rw (drop_of_length-le xs h) at e
 
--- a berth's share of what is left
-abbrev pub sharing : ℕ → Berth → Share
-sharing left b = share_of left b.guarantee b.cap b.demand
+-- a berth with its share of what is left, and nothing else of it changed
+abbrev pub given : ℕ → Berth → Berth
+given left b = with_allotment b (positive_part (share_of left b).allotment)
 
--- a berth with the allotment of a share, and nothing else of it changed
-abbrev pub given : Berth → Share → Berth
-given b s = record { guarantee = b.guarantee; cap = b.cap; demand = b.demand; allotment = s.allotment }
+module _ (ys : List Berth) (i : ℕ) (d : Berth) (left : ℕ) (last : List Berth) where
+  pub filled_next : i < length ys → take i ys ++ allotted left (drop i ys) ≡ last
+      → take (i + 1) (set ys i (given left (get_or ys i d)))
+      ++ allotted (share_of left (get_or ys i d)).left (drop (i + 1) (set ys i (given left (get_or ys i d)))) ≡ last
+  unfolding allotted
+  filled_next h e =
+      let y = given left (get_or ys i d) in
+      rw (add-one, take-suc-set ys i y h, drop-set-lt (suc i) ys i y (omega arith)) (append_assoc (take i ys) (y ∷ []) _ ∙ rw (drop-cons ys i d h) at e)
 
--- the first p berths get their shares
-unfoldable pub filling : ℕ → ℕ → List Berth → List Berth
-filling zero left bs = bs
-filling (suc p) left [] = []
-filling (suc p) left (b ∷ bs) = given b (sharing left b) ∷ filling p (sharing left b).left bs
-
-module _ (ys : List Berth) (j p : ℕ) (d : Berth) (left : ℕ) (last : List Berth) where
-  next_at : (m : ℕ) → j < length ys → take j ys ++ filling (suc m) left (drop j ys) ≡ last
-      → take (suc j) (set ys j (given (get_or ys j d) (sharing left (get_or ys j d))))
-      ++ filling m (sharing left (get_or ys j d)).left (drop (suc j) (set ys j (given (get_or ys j d) (sharing left (get_or ys j d))))) ≡ last
-  unfolding filling
-  next_at m h e =
-      let y = given (get_or ys j d) (sharing left (get_or ys j d)) in
-      rw (take-suc-set ys j y h, drop-set-lt (suc j) ys j y (omega arith)) (append_assoc (take j ys) (y ∷ []) _ ∙ rw (drop-cons ys j d h) at e)
-
-  pub filled_next : j < length ys → j < p → take j ys ++ filling (p - j) left (drop j ys) ≡ last
-      → take (j + 1) (set ys j (given (get_or ys j d) (sharing left (get_or ys j d))))
-      ++ filling (p - (j + 1)) (sharing left (get_or ys j d)).left (drop (j + 1) (set ys j (given (get_or ys j d) (sharing left (get_or ys j d))))) ≡ last
-  filled_next h l e =
-      let s : p - j ≡ suc (p - (j + 1)) = omega arith in
-      let r = next_at (p - (j + 1)) h (rw s at e) in
-      let t : j + 1 ≡ suc j = omega arith in
-      ap
-      (λ (k : ℕ). take k (set ys j (given (get_or ys j d) (sharing left (get_or ys j d))))
-      ++ filling (p - (j + 1)) (sharing left (get_or ys j d)).left (drop k (set ys j (given (get_or ys j d) (sharing left (get_or ys j d)))))) t ∙ r
-
-  pub filled_all : p ≤ j → take j ys ++ filling (p - j) left (drop j ys) ≡ last → ys ≡ last
-  unfolding filling
-  filled_all l e = let z : p - j ≡ 0 = omega arith in sym (take-append-drop j ys) ∙ rw z at e
-
--- all berths of the list
-pub fills : (left : ℕ) (bs : List Berth) → filling (length bs) left bs ≡ allotted left bs
-unfolding filling allotted
-fills left [] = refl
-fills left (b ∷ bs) = ap (λ (l : List Berth). given b (sharing left b) ∷ l) (fills (sharing left b).left bs)
+  pub filled_all : length ys ≤ i → take i ys ++ allotted left (drop i ys) ≡ last → ys ≡ last
+  unfolding allotted
+  filled_all h e = rw (take_all i ys h, drop_of_length-le ys h, append-nil ys) at e
 
 -- ---- what is carried along the list
 below_sum : (room g s : ℕ) → (ltb room g || ltb (room - g) s) ≡ ltb room (g + s)
@@ -107,7 +76,7 @@ carried c [] = λ i. record {
   where
     the_same : (n : ℕ) → n ≡ n - 0
     the_same n = omega arith
-carried c (b ∷ bs) = carried (counting c b) bs ∙ λ i. record {
+carried c (b ∷ bs) = carried (with_berth c b) bs ∙ λ i. record {
   faulty = or_assoc c.faulty (is_faulty b.guarantee b.cap) (any_faulty bs) i;
   short = (or_assoc c.short (ltb c.room (positive_part b.guarantee)) (ltb (c.room - positive_part b.guarantee) (guarantees bs))
       ∙ ap (λ (x : Bool). c.short || x) (below_sum c.room (positive_part b.guarantee) (guarantees bs))) i;
@@ -118,61 +87,39 @@ carried c (b ∷ bs) = carried (counting c b) bs ∙ λ i. record {
     twice : (n g s : ℕ) → n - g - s ≡ n - (g + s)
     twice n g s = omega arith
 
-pub places_few : (m n : ℕ) → places_for m n ≤ n
-places_few m n = go (eqb m 0)
-  where
-    go : (x : Bool) → cond x n 0 ≤ n
-    go true = omega arith
-    go false = omega arith
-
--- ---- the berths that are read
-abbrev pub seen : List Berth → List Berth
-seen bs = take (readable (length bs)) bs
-
-pub readable_few : (n : ℕ) → readable n ≤ n
-readable_few n = go (ltb 16 n)
-  where
-    go : (x : Bool) → cond x 0 n ≤ n
-    go true = omega arith
-    go false = omega arith
-
-pub seen_length : (bs : List Berth) → length (seen bs) ≡ readable (length bs)
-seen_length bs = length-take-le (readable (length bs)) bs (readable_few (length bs))
-
-pub seen_at : (bs : List Berth) (i : ℕ) (d : Berth) → i < readable (length bs) → get_or (seen bs) i d ≡ get_or bs i d
-seen_at bs i d h = get_or-take (readable (length bs)) bs i d h
-
--- all of them, or a column that is refused with 22
+-- ---- what is answered, and the berths afterwards
 module _ (limit : ℤ) (bs : List Berth) where
+  pub refused_count : is_wrong_count (length bs) ≡ true → (Refused 22 ≡ answered (refusal limit bs)) × (bs ≡ filled limit bs)
+  unfolding refusal filled
+  refused_count e = rw e (refl, refl)
+
+  -- the column, when all berths have been counted
   abbrev pub counted_column : Column
-  counted_column = with_berths (at_limit limit) (seen bs)
+  counted_column = with_berths (at_limit limit) bs
 
-  few_number : (x : Bool) → ltb 16 (length bs) ≡ x
-      → refusal_in (with_berths (at_limit limit) (take (cond x 0 (length bs)) bs)) (cond x 0 (length bs)) ≡ refusal limit bs
-  unfolding refusal
-  few_number true e = rw (e, or-true (ltb (length bs) 1))
-  few_number false e = rw (take_all (length bs) bs (omega arith), carried (at_limit limit) bs)
+  module _ (few : is_wrong_count (length bs) ≡ false) where
+    -- the answer and the berths of what is left over, or of a refusal
+    abbrev outcome : Result ℕ ColumnRefusal → Answer × List Berth
+    outcome (Ok left) = (Accepted, allotted left bs)
+    outcome (Err r) = (Refused (refusal_number r), bs)
 
-  pub judged_number : refusal_in counted_column (readable (length bs)) ≡ refusal limit bs
-  judged_number = few_number (ltb 16 (length bs)) refl
+    counted : (answered (refusal limit bs), filled limit bs) ≡ outcome (left_over counted_column)
+    unfolding refusal filled
+    counted = by_tests ((at_limit limit).faulty || any_faulty bs) refl (ltb (at_limit limit).room (guarantees bs)) refl
+      where
+        by_tests : (f : Bool) → ((at_limit limit).faulty || any_faulty bs) ≡ f → (s : Bool) → ltb (at_limit limit).room (guarantees bs) ≡ s
+            → (answered (refusal limit bs), filled limit bs) ≡ outcome (left_over counted_column)
+        by_tests true e s h = rw (few, carried (at_limit limit) bs, e) refl
+        by_tests false e true h = rw (few, carried (at_limit limit) bs, e, h) refl
+        by_tests false e false h = rw (few, carried (at_limit limit) bs, e, h) refl
 
-  places_filled : (n left : ℕ) → filling (places_for n (length bs)) left bs ≡ cond (eqb n 0) (allotted left bs) bs
-  unfolding filling
-  places_filled n left = go (eqb n 0)
-    where
-      go : (x : Bool) → filling (cond x (length bs) 0) left bs ≡ cond x (allotted left bs) bs
-      go true = fills left bs
-      go false = refl
+    by_outcome : (r : Result ℕ ColumnRefusal) → r ≡ left_over counted_column → ((outcome r).0 ≡ answered (refusal limit bs)) × ((outcome r).1 ≡ filled limit bs)
+    by_outcome r e = rw e (ap (λ w. w.0) (sym counted), ap (λ w. w.1) (sym counted))
 
-  few_filled : (x : Bool) → ltb 16 (length bs) ≡ x
-      → let c = with_berths (at_limit limit) (take (cond x 0 (length bs)) bs) in
-      filling (places_for (refusal limit bs) (cond x 0 (length bs))) c.left bs ≡ filled limit bs
-  unfolding filled refusal filling
-  few_filled true e = rw (e, or-true (ltb (length bs) 1))
-  few_filled false e =
-      rw (take_all (length bs) bs (omega arith), carried (at_limit limit) bs) (places_filled (refusal limit bs) (positive_part limit - sum first_part bs))
+    pub shared : (left : ℕ) → Ok left ≡ left_over counted_column → (Accepted ≡ answered (refusal limit bs)) × (allotted left bs ≡ filled limit bs)
+    unfolding allotted
+    shared left e = by_outcome (Ok left) e
 
-  -- what comes of the column
-  pub judged :
-      filling (judged_of counted_column (readable (length bs))).places (judged_of counted_column (readable (length bs))).left bs ≡ filled limit bs
-  judged = rw judged_number (few_filled (ltb 16 (length bs)) refl)
+    pub refused : (r : ColumnRefusal) → Err r ≡ left_over counted_column
+        → (Refused (refusal_number r) ≡ answered (refusal limit bs)) × (bs ≡ filled limit bs)
+    refused r e = by_outcome (Err r) e

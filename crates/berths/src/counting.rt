@@ -1,94 +1,85 @@
-// The berths of a column counted against its limit, and whether it is refused. No branch on the way, so
-// that the function that goes along the berths has nothing to decide.
-ghost use Rattle.std.specs.Prelude.{◌≡◌, ◌-◌};
+// The berths of a column counted against its limit, and whether it is refused.
+ghost use Rattle.std.specs.Prelude.{◌≡◌};
+ghost use Rattle.calls.specs.declared.Answer.TheVariants.{Refused};
 ghost use Rattle.berths.specs.Allotments.{is_faulty};
-ghost use Rattle.berths.specs.Counting.{readable, at_limit, with_berth, refusal_in, judged_of, answered};
+ghost use Rattle.berths.specs.Counting.{is_wrong_count, at_limit, with_berth, left_over, refusal_number};
 
-use crate::{Column, Judged, shares};
+use crate::{Berth, Column, ColumnRefusal};
 use calls::Answer;
 
-// How many of n berths are read: all, or none of more than sixteen, which are refused as no berth is,
-// whatever they hold.
-pub(crate) fn readable(n: usize) -> usize
-    ensures { result ≡ readable n }
+// No berth, or more than sixteen, which are refused whatever they hold.
+pub(crate) fn is_wrong_count(n: usize) -> bool
+    ensures { result ≡ is_wrong_count n }
 {
-    if n <= 16 { n } else { 0 }
+    (n < 1) | (16 < n)
 }
 
-// A column with no berth yet.
-pub(crate) fn at_limit(limit: i32) -> Column
-    ensures { result ≡ at_limit limit }
-{
-    let room = base::positive_part(limit);
-    Column {
-        faulty: limit < 0,
-        short: false,
-        room,
-        left: room,
+impl Column {
+    // A column with no berth yet.
+    pub(crate) fn at_limit(limit: i32) -> Column
+        ensures { result ≡ at_limit limit }
+    {
+        let room = base::positive_part(limit);
+        Column {
+            faulty: limit < 0,
+            short: false,
+            room,
+            left: room,
+        }
     }
-}
 
-fn is_faulty(guarantee: i32, cap: i32) -> bool
-    ensures { result ≡ is_faulty guarantee cap }
-{
-    (guarantee < 0) | (cap < 0) | (cap < guarantee)
-}
+    // The column with one berth more. What is at fault is counted and nothing branches on it, so that a
+    // loop over the berths runs straight through.
+    pub(crate) fn with_berth(self, berth: Berth) -> Column
+        ensures { result ≡ with_berth self berth }
+    {
+        let guaranteed = base::positive_part(berth.guarantee);
+        Column {
+            faulty: self.faulty | berth.is_faulty(),
+            short: self.short | (self.room < guaranteed),
+            room: self.room.saturating_sub(guaranteed),
+            left: self.left.saturating_sub(berth.first_part()),
+        }
+    }
 
-// The column with one berth more.
-pub(crate) fn with_berth(column: Column, guarantee: i32, cap: i32, demand: i32) -> Column
-    ensures { result ≡ with_berth column guarantee cap demand }
-{
-    let guaranteed = base::positive_part(guarantee);
-    Column {
-        faulty: column.faulty | is_faulty(guarantee, cap),
-        short: column.short | (column.room < guaranteed),
-        room: shares::minus(column.room, guaranteed),
-        left: shares::minus(column.left, shares::first_part(guarantee, demand)),
-    }
-}
-
-// The number of the refusal of a column of n berths, or 0.
-fn refusal_in(column: Column, n: usize) -> u8
-    ensures { result ≡ refusal_in column n }
-{
-    if n < 1 {
-        return 22;
-    }
-    if 16 < n {
-        return 22;
-    }
-    let faulty = column.faulty;
-    if faulty {
-        return 23;
-    }
-    let short = column.short;
-    if short { 24 } else { 0 }
-}
-
-pub(crate) fn judge(column: Column, n: usize) -> Judged
-    ensures { result ≡ judged_of column n }
-{
-    let number = refusal_in(column, n);
-    if number == 0 {
-        return Judged {
-            number: 0,
-            places: n,
-            left: column.left,
-        };
-    }
-    Judged {
-        number,
-        places: 0,
-        left: column.left,
+    // What is left of the limit for what its berths get beyond their first parts.
+    pub(crate) fn left_over(self) -> Result<u32, ColumnRefusal>
+        ensures { result ≡ left_over self }
+    {
+        if self.faulty {
+            return Err(ColumnRefusal::BerthPower);
+        }
+        if self.short {
+            return Err(ColumnRefusal::GuaranteeSum);
+        }
+        Ok(self.left)
     }
 }
 
-pub(crate) fn answer_of(number: u8) -> Answer
-    ensures { result ≡ answered number }
-{
-    if number == 0 {
-        Answer::Accepted
-    } else {
-        Answer::Refused(number)
+impl Berth {
+    fn is_faulty(self) -> bool
+        ensures { result ≡ is_faulty self.guarantee self.cap }
+    {
+        (self.guarantee < 0) | (self.cap < 0) | (self.cap < self.guarantee)
+    }
+}
+
+impl ColumnRefusal {
+    fn number(self) -> u8
+        ensures { result ≡ refusal_number self }
+    {
+        match self {
+            ColumnRefusal::BerthCount => 22,
+            ColumnRefusal::BerthPower => 23,
+            ColumnRefusal::GuaranteeSum => 24,
+        }
+    }
+}
+
+impl From<ColumnRefusal> for Answer {
+    ghost from_gives = { λ refusal answer. answer ≡ Refused (refusal_number refusal) };
+
+    fn from(refusal: ColumnRefusal) -> Answer {
+        Answer::Refused(refusal.number())
     }
 }

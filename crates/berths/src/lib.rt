@@ -26,12 +26,13 @@ pub struct Berth {
     pub allotment: i32,
 }
 
-// A column and those of its berths that have been counted.
+// A column and those of its berths that have been counted. Two flags and not the refusal so far, since a
+// fault in a later berth goes before guarantees that are too large already.
 #[derive(Clone, Copy)]
 pub(crate) struct Column {
-    // The limit, a guarantee or a cap is negative, or a guarantee is above its cap: refusal 23.
+    // The limit, a guarantee or a cap is negative, or a guarantee is above its cap.
     pub faulty: bool,
-    // The guarantees sum above the limit: refusal 24.
+    // The guarantees sum above the limit.
     pub short: bool,
     // What the guarantees leave of the limit.
     pub room: u32,
@@ -39,15 +40,15 @@ pub(crate) struct Column {
     pub left: u32,
 }
 
-// What comes of a column when all its berths have been counted.
+// Why a column is refused, in the order of the tests.
 #[derive(Clone, Copy)]
-pub(crate) struct Judged {
-    // The number of the refusal, or 0.
-    pub number: u8,
-    // How many berths are filled: all, or none.
-    pub places: usize,
-    // What is left of the limit for what they get beyond their first parts.
-    pub left: u32,
+pub(crate) enum ColumnRefusal {
+    // No berth, or more than sixteen.
+    BerthCount,
+    // The limit, a guarantee or a cap is negative, or a guarantee is above its cap.
+    BerthPower,
+    // The guarantees sum above the limit.
+    GuaranteeSum,
 }
 
 // What a berth gets, and what is left for those behind it.
@@ -60,27 +61,27 @@ pub(crate) struct Share {
 // Fills the allotments of a column's berths: 22 for no berth or more than sixteen, 23 if the limit, a
 // guarantee or a cap is negative or a guarantee is above its cap, 24 if the guarantees sum above the
 // limit. More than sixteen are not read at all; a refusal leaves every one as it is.
+#[tactic(auto, using(crate::proofs::Sharing::laws, crate::proofs::NearMisses::near_misses))]
 pub fn allot(limit: i32, berths: &mut [Berth]) -> Answer
     ensures value { (result ≡ answered (refusal limit berths.old)) × (berths.new ≡ filled limit berths.old) }
     ensures laws { Laws }
     ensures near_misses { NearMisses }
 {
-    let mut n = berths.len();
-    n = counting::readable(n);
-    let mut column = counting::at_limit(limit);
-    let mut i = 0;
-    while i < n {
-        column = counting::with_berth(column, berths[i].guarantee, berths[i].cap, berths[i].demand);
-        i += 1;
+    if counting::is_wrong_count(berths.len()) {
+        return Answer::from(ColumnRefusal::BerthCount);
     }
-    let judged = counting::judge(column, n);
-    let mut left = judged.left;
-    let mut j = 0;
-    while j < judged.places {
-        let share = shares::share_of(left, berths[j].guarantee, berths[j].cap, berths[j].demand);
-        berths[j].allotment = share.allotment;
+    let mut column = Column::at_limit(limit);
+    for berth in berths.iter() {
+        column = column.with_berth(*berth);
+    }
+    let mut left = match column.left_over() {
+        Ok(left) => left,
+        Err(refusal) => return Answer::from(refusal),
+    };
+    for berth in berths.iter_mut() {
+        let share = berth.share_of(left);
+        berth.allotment = share.allotment;
         left = share.left;
-        j += 1;
     }
-    counting::answer_of(judged.number)
+    Answer::Accepted
 }

@@ -20,6 +20,7 @@ pub enum Request {
     LocalReconnect,
 }
 
+// One enum, as its callers have an arm for each of the three: a `Result` of an `Option` would nest them.
 #[derive(Clone, Copy)]
 pub enum Decision {
     // The next state, the code of the line in the disconnect log, whether supply opens, and the move's
@@ -77,7 +78,9 @@ fn disconnect(state: u8) -> Decision
     }
 }
 
-// The answer to a request in a mode and a state: what the rows of the switch table give.
+// The answer to a request in a mode and a state: what the rows of the switch table give. Two numbers and
+// no `Control`, as `ByMode` asks it of any mode and state, and no opening counts.
+#[tactic(auto, using(crate::proofs::ByMode::by_mode))]
 pub fn decide(request: Request, mode: u8, state: u8) -> Decision
     ensures value { result ≡ decision switch_table request mode state }
     ensures by_mode { ByMode }
@@ -110,6 +113,7 @@ pub fn decide(request: Request, mode: u8, state: u8) -> Decision
 
 // What accepting a mode does to the switch: mode 0 connects it, a move without a letter; the others
 // leave it.
+#[tactic(auto, unfolding(crate::specs::Control::mode_decision))]
 pub fn decide_mode(mode: u8, state: u8) -> Decision
     ensures { result ≡ mode_decision mode state }
 {
@@ -127,6 +131,7 @@ pub fn decide_mode(mode: u8, state: u8) -> Decision
 
 impl Control {
     // The ranges of mode and state, and mode 0 only with the switch connected.
+    #[tactic(auto, using(crate::proofs::NearMisses::near_misses), unfolding(crate::specs::Control::sound_control))]
     pub fn sound(self) -> bool
         ensures value { result ≡ sound_control self }
         ensures near_misses { NearMisses }
