@@ -1,8 +1,9 @@
 -- A sound area is in one of three states, its ids past the count are zero, and every step keeps it sound.
-use Rattle.base.proofs.Prelude.{◌≡◌, refl, ap, true, ◌&&◌, false≢true, List, ℕ, ◌-◌, ◌<◌, ◌≤◌, arith, eqb, leb, ℤ}
-use Rattle.base.proofs.Prelude.{pos, negsuc, length, get_or, length-take, le-leb, le-ltb, eq-eqb, eqb-true, leb-true}
+use Rattle.base.proofs.Prelude.{◌≡◌, refl, true, ◌&&◌, List, ℕ, ◌-◌, ◌<◌, ◌≤◌, arith, eqb, leb, ℤ}
+use Rattle.base.proofs.Prelude.{pos, length, get_or, length-take, le-leb, le-ltb, eq-eqb, eqb-true, leb-true}
 use Rattle.base.proofs.Prelude.{leb-false, within, by_test, and_left, and_right}
 use Rattle.base.proofs.Below.{below_at}
+use Rattle.base.proofs.Signed.{number_same}
 use Rattle.base.specs.Tests.{eq_z}
 use Rattle.limiter.specs.Limiter.{is_threshold}
 use Rattle.emergency.specs.declared.Emergency.{Emergency}
@@ -25,12 +26,6 @@ pub data Which (e : Emergency) : Type 0 where
   waits : e.state ≡ 1 → in_ranges e ≡ true → e.left ≡ e.duration → Which e
   runs : e.state ≡ 2 → in_ranges e ≡ true → within 1 e.duration e.left ≡ true → Which e
 
-same_number : (a b : ℤ) → eq_z a b ≡ true → a ≡ b
-same_number (pos a) (pos b) e = ap pos (eqb-true a b e)
-same_number (pos a) (negsuc b) e = absurd (false≢true e)
-same_number (negsuc a) (pos b) e = absurd (false≢true e)
-same_number (negsuc a) (negsuc b) e = ap negsuc (eqb-true a b e)
-
 empty_fields : (e : Emergency) → e.state ≡ 0 → is_empty e ≡ true → Empty e
 empty_fields e s five =
     let four = and_right (eqb e.id 0) _ five in
@@ -39,7 +34,7 @@ empty_fields e s five =
     record {
       state = s;
       id = eqb-true e.id 0 (and_left _ _ five);
-      threshold = same_number e.threshold (pos 0) (and_left _ _ four);
+      threshold = number_same e.threshold (pos 0) (and_left _ _ four);
       activation = eqb-true e.activation 0 (and_left _ _ three);
       duration = eqb-true e.duration 0 (and_left _ _ two);
       left = eqb-true e.left 0 (and_right (eqb e.duration 0) _ two);

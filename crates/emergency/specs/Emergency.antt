@@ -1,11 +1,9 @@
 -- The emergency profile and the group ids (document 02, A3; DLMS class 71), by the fields of the ninth area: 'id 2, threshold 4, activation 4, duration 4,
 -- samples left 4, state 1 (0 none, 1 waiting, 2 active), count 1, ids 16'.
-use Rattle.std.specs.Prelude.{◌≡◌, ℕ, ◌-◌, Bool, ◌&&◌, ◌||◌, cond, List, ◌++◌, eqb, leb, ltb, ℤ, pos, length, take, get_or, replicate}
+use Rattle.std.specs.Prelude.{◌≡◌, ℕ, ◌-◌, Bool, ◌&&◌, ◌||◌, cond, List, ◌++◌, eqb, leb, ltb, ℤ, pos, length, take, get_or, replicate, Option, Some, None}
 use Rattle.base.specs.Tests.{within, among, below, eq_z}
 use Rattle.limiter.specs.Limiter.{is_threshold}
 use Rattle.emergency.specs.declared.Emergency.{Emergency}
-use Rattle.emergency.specs.declared.Lookup.{Lookup}
-use Rattle.emergency.specs.declared.Lookup.TheVariants.{Listed, NotListed}
 
 -- 'with state 0 the first five are zero'
 abbrev pub is_empty : Emergency → Bool
@@ -52,8 +50,8 @@ unfoldable pub padded : List ℕ → List ℕ
 padded gs = gs ++ replicate (8 - length gs) 0
 
 -- '15, id not in the group (kind 17)': the id where it is in the group
-abbrev pub listed_of : List ℕ → ℕ → Lookup
-listed_of gs id = cond (among gs id) (Listed id) NotListed
+abbrev pub listed_of : List ℕ → ℕ → Option ℕ
+listed_of gs id = cond (among gs id) (Some id) None
 
 -- 'Kind 16 sets up to eight group ids'
 abbrev pub with_groups : Emergency → List ℕ → Emergency

@@ -32,39 +32,42 @@ pub struct Emergency {
     pub ids: [u16; 8],
 }
 
-// What the group ids say of an id.
-#[derive(Clone, Copy)]
-pub enum Lookup {
-    // It is one of them.
-    Listed(u16),
-    // It is none of them: refusal 15.
-    NotListed,
-}
+// No profile and no group ids.
+const NO_EMERGENCY: Emergency = Emergency {
+    id: 0,
+    threshold: 0,
+    activation: 0,
+    duration: 0,
+    left: 0,
+    state: 0,
+    count: 0,
+    ids: [0; 8],
+};
 
-// The range of a profile's duration, in samples.
+// The range of a profile's duration, in samples. It is not the limiter's, and one function of both with
+// its end as a parameter would be no plainer than the range itself.
 pub fn is_duration(n: u32) -> bool
     ensures { result ≡ is_duration n }
 {
-    (1 <= n) & (n <= 604800)
+    (1..=604800).contains(&n)
 }
 
 impl Emergency {
     // Whether profile and group ids are as the calls leave them.
+    #[tactic(auto, unfolding(crate::specs::Emergency::sound_emergency))]
     pub fn sound(self) -> bool
         ensures value { result ≡ sound_emergency self }
         ensures near_misses { NearMisses }
     {
-        let ids = self.ids;
-        self.profile_sound() & groups::sound(self.count, ids)
+        self.profile_sound() & groups::sound(self.count, self.ids)
     }
 
     // The id among the group ids. A call's id has 32 bits and is compared whole; the one that is found
     // has the 16 bits of a group id.
-    pub fn find(self, id: u32) -> Lookup
+    pub fn find(self, id: u32) -> Option<u16>
         ensures { result ≡ listed_of (groups_in self) id }
     {
-        let ids = self.ids;
-        groups::find(self.count, ids, id)
+        groups::find(self.count, self.ids, id)
     }
 
     // The threshold in force where the limiter's own is `normal`.
@@ -79,7 +82,7 @@ impl Emergency {
 
     // Before a sample is judged: a profile that waits goes active if the clock, advanced by the
     // sample, has reached its activation.
-    pub fn start(mut self, clock: u32) -> Emergency
+    pub fn start(self, clock: u32) -> Emergency
         ensures value { result ≡ started clock self }
         ensures laws { Laws }
     {
@@ -89,12 +92,11 @@ impl Emergency {
         if clock < self.activation {
             return self;
         }
-        self.state = 2;
-        self
+        Emergency { state: 2, ..self }
     }
 
     // After a sample was judged: one sample less is left, and behind the last there is no profile.
-    pub fn end(mut self) -> Emergency
+    pub fn end(self) -> Emergency
         ensures { result ≡ ended self }
     {
         if self.state != 2 {
@@ -103,51 +105,49 @@ impl Emergency {
         if self.left <= 1 {
             return self.without_profile();
         }
-        self.left = self.left - 1;
-        self
+        Emergency {
+            left: self.left - 1,
+            ..self
+        }
     }
 
     // No profile: its five fields are zero, so that nothing of it shows on the page. The group ids stay.
-    fn without_profile(mut self) -> Emergency
+    fn without_profile(self) -> Emergency
         ensures { result ≡ without_profile self }
     {
-        self.id = 0;
-        self.threshold = 0;
-        self.activation = 0;
-        self.duration = 0;
-        self.left = 0;
-        self.state = 0;
-        self
+        let ids = self.ids;
+        Emergency {
+            count: self.count,
+            ids,
+            ..NO_EMERGENCY
+        }
     }
 
     // A new profile in the place of any other. It waits, whatever the clock. Its numbers are judged by
     // the caller.
-    pub fn set_profile(
-        mut self,
-        id: u16,
-        threshold: i32,
-        activation: u32,
-        duration: u32,
-    ) -> Emergency
+    pub fn set_profile(self, id: u16, threshold: i32, activation: u32, duration: u32) -> Emergency
         ensures { result ≡ with_profile self id threshold activation duration }
     {
-        self.id = id;
-        self.threshold = threshold;
-        self.activation = activation;
-        self.duration = duration;
-        self.left = duration;
-        self.state = 1;
-        self
+        Emergency {
+            id,
+            threshold,
+            activation,
+            duration,
+            left: duration,
+            state: 1,
+            ..self
+        }
     }
 
     // New group ids: the first `count` of eight, and zeros behind them. A profile goes on, whatever its
     // id. The count is judged by the caller; of one above eight all eight are taken.
-    pub fn set_groups(mut self, count: u8, ids: [u16; 8]) -> Emergency
+    pub fn set_groups(self, count: u8, ids: [u16; 8]) -> Emergency
         ensures { result ≡ with_groups self (take count ids) }
     {
-        self.count = groups::taken(count);
-        let zeroed = groups::zeroed(count, ids);
-        self.ids = zeroed;
-        self
+        Emergency {
+            count: count.min(8),
+            ids: groups::zeroed(count, ids),
+            ..self
+        }
     }
 }

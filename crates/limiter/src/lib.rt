@@ -16,6 +16,7 @@ pub struct Limiter {
 }
 
 // The limiter after a sample, and whether the sample changed Exceeded.
+// No Option: the limiter is another whether the sample fired or not.
 #[derive(Clone, Copy)]
 pub struct Watched {
     pub limiter: Limiter,
@@ -40,7 +41,7 @@ pub fn is_threshold(watts: i32) -> bool
 pub fn is_duration(n: u32) -> bool
     ensures { result ≡ is_duration n }
 {
-    (1 <= n) & (n <= 86400)
+    (1..=86400).contains(&n)
 }
 
 // A sample counts towards a change of Exceeded: one that is not over while it is Exceeded, one that
@@ -48,7 +49,7 @@ pub fn is_duration(n: u32) -> bool
 fn is_counted(exceeded: bool, over: bool) -> bool
     ensures { result ≡ counts exceeded over }
 {
-    if exceeded { !over } else { over }
+    over != exceeded
 }
 
 impl Limiter {
@@ -56,11 +57,11 @@ impl Limiter {
     fn awaited(self) -> u32
         ensures { result ≡ awaited self }
     {
-        let exceeded = self.exceeded;
-        if exceeded { self.under } else { self.over }
+        if self.exceeded { self.under } else { self.over }
     }
 
     // The ranges of the settings, and Run below the duration that is awaited.
+    #[tactic(auto, unfolding(crate::specs::Limiter::sound_limiter))]
     pub fn sound(self) -> bool
         ensures value { result ≡ sound_limiter self }
         ensures near_misses { NearMisses }
@@ -72,36 +73,37 @@ impl Limiter {
     }
 
     // The same settings, with Exceeded and Run as given.
-    fn with_run(mut self, exceeded: bool, run: u32) -> Limiter
+    fn with_run(self, exceeded: bool, run: u32) -> Limiter
         ensures { result ≡ with_run self exceeded run }
     {
-        self.exceeded = exceeded;
-        self.run = run;
-        self
+        Limiter {
+            exceeded,
+            run,
+            ..self
+        }
     }
 
     // The limiter after a sample that is over or not.
+    #[tactic(auto, unfolding(crate::specs::Limiter::watched))]
     pub fn watch(self, over: bool) -> Watched
         ensures { result ≡ watched self over }
     {
-        let exceeded = self.exceeded;
-        let run = self.run;
-        if !is_counted(exceeded, over) {
+        if !is_counted(self.exceeded, over) {
             return Watched {
-                limiter: self.with_run(exceeded, 0),
+                limiter: self.restart(),
                 fired: false,
             };
         }
-        let awaited = self.awaited() as u64;
-        // Added in 64 bits: in a record that is not sound, Run may be the largest number of 32.
-        if awaited <= (run as u64) + 1 {
+        // In a record that is not sound, Run may be the largest number of 32 bits: no duration is longer.
+        let run = self.run.saturating_add(1);
+        if self.awaited() <= run {
             return Watched {
-                limiter: self.with_run(!exceeded, 0),
+                limiter: self.with_run(!self.exceeded, 0),
                 fired: true,
             };
         }
         Watched {
-            limiter: self.with_run(exceeded, run + 1),
+            limiter: self.with_run(self.exceeded, run),
             fired: false,
         }
     }
@@ -115,21 +117,23 @@ impl Limiter {
     }
 
     // New settings start a new run; Exceeded stays.
-    pub fn set(mut self, threshold: i32, over: u32, under: u32) -> Limiter
+    pub fn set(self, threshold: i32, over: u32, under: u32) -> Limiter
         ensures { result ≡ with_settings self threshold over under }
     {
-        self.threshold = threshold;
-        self.over = over;
-        self.under = under;
-        self.run = 0;
-        self
+        Limiter {
+            threshold,
+            over,
+            under,
+            exceeded: self.exceeded,
+            run: 0,
+        }
     }
+
     // Another threshold is in force: a new run begins; Exceeded stays.
     pub fn restart(self) -> Limiter
         ensures { result ≡ restarted self }
     {
-        let exceeded = self.exceeded;
-        self.with_run(exceeded, 0)
+        self.with_run(self.exceeded, 0)
     }
 
     // Armed again: whatever was seen before no longer counts.

@@ -1,7 +1,7 @@
 -- The tail of a call: where the step's clears and lines are put into the arrays of a sound record, the record is the one that the machine gives.
 use Prim.Native.Nat.{ℕ, ◌≤◌}
 use native.Mathlib.Omega.{arith}
-use mathlib.Core.Path.{◌≡◌, refl, ◌∙◌}
+use mathlib.Core.Path.{◌≡◌, refl, ap, sym, ◌∙◌}
 use mathlib.Core.Bool.{Bool, true, false, ◌&&◌}
 use mathlib.Core.List.{List, []}
 use lib.IntN.{ℤ}
@@ -24,12 +24,12 @@ use Rattle.calls.specs.Calls.{call_of}
 use Rattle.machine.specs.Machine.{Result, refusing, making, owing}
 use Rattle.steps.specs.declared.Scalars.{Scalars}
 use Rattle.steps.specs.declared.Step.{Step}
-use Rattle.steps.specs.declared.QuietSample.{QuietSample}
+use Rattle.std.specs.Prelude.{Some}
 use Rattle.steps.specs.Scalars.{values_of, sound_scalars}
 use Rattle.status.proofs.Arrays.{arrays_after_lem}
 use Rattle.status.proofs.Records.{lines_fit, lines_first}
-use Rattle.steps.specs.Step.{result_of, step_for, step_of, quiet_sample}
-use Rattle.steps.proofs.Samples.{quiet_made}
+use Rattle.steps.specs.Step.{result_of, step_for, step_of, after_normal, quiet_sample}
+use Rattle.steps.proofs.Samples.{quiet_told, quiet_made}
 use Rattle.meter.specs.declared.Meter.{Meter}
 use Rattle.meter.specs.declared.Outcome.{Outcome}
 use Rattle.meter.specs.State.{scalars_of, with_logs}
@@ -70,13 +70,13 @@ finished rows m c s g₀ g steps clears adds = rw (adds, clears, steps) (go (res
     go (making k) = rw (lines_first line_clock k.lines _, lines_first line_code k.lines _)
 
 -- what a quiet sample leaves: its scalars, and the arrays as they are
-pub quiet_left : (rows : List EventRow) (m : Meter) (p : ℤ) (q : QuietSample) → q ≡ quiet_sample (scalars_of m) p → q.quiet ≡ true
-    → outcome_of (record { scalars = q.scalars; answer = Accepted; letter = None }) m.logs.counts m.logs.clocks m.logs.codes
+pub quiet_left : (rows : List EventRow) (m : Meter) (p : ℤ) (next : Scalars) → quiet_sample (scalars_of m) p ≡ Some next
+    → outcome_of (record { scalars = next; answer = Accepted; letter = None }) m.logs.counts m.logs.clocks m.logs.codes
     ≡ carried_out_in_parts rows m (Sample p)
 unfolding zeroed_arrays uncounted zeroed
-quiet_left rows m p q is quiet =
-    finished rows m (Sample p) (step_for (owing (values_of q.scalars) 3 [])) m.logs m.logs
-    (rw is (quiet_made (scalars_of m) p (rw is at quiet))) refl (none_appended 3 [] [] m.logs refl)
+quiet_left rows m p next quiet =
+    finished rows m (Sample p) (step_for (owing (values_of next) 3 [])) m.logs m.logs (quiet_made (scalars_of m) p quiet) refl
+    (none_appended 3 [] [] m.logs refl)
 
 -- the record with the clock and the limiter of other scalars
 abbrev with_sampled : Meter → Scalars → Meter
@@ -108,10 +108,12 @@ module _ (rows : List EventRow) (m : Meter) where
   of_parts c s o z sound e p = rw (p, e) (sound_in_parts c z sound)
 
   -- a quiet sample of the record as it stands: the logs stay where they are
-  pub quiet_applied : (p : ℤ) (s : Scalars) (q : QuietSample) → Sized m.logs → sound_meter rows m ≡ true → s ≡ scalars_of m → q ≡ quiet_sample s p
-      → q.quiet ≡ true → record { meter = with_sampled m q.scalars; answer = Accepted; letter = None } ≡ applied rows m (Sample p)
-  quiet_applied p s q z sound same is quiet =
-      rw (is, same) (quiet_left rows m p (quiet_sample (scalars_of m) p) refl (rw (is, same) at quiet) ∙ sound_in_parts (Sample p) z sound)
+  pub quiet_applied : (p : ℤ) (s next : Scalars) → Sized m.logs → sound_meter rows m ≡ true → s ≡ scalars_of m → quiet_sample s p ≡ Some next
+      → record { meter = with_sampled m next; answer = Accepted; letter = None } ≡ applied rows m (Sample p)
+  quiet_applied p s next z sound same quiet =
+      let told : quiet_sample (scalars_of m) p ≡ Some next = rw same at quiet in
+      let is = (quiet_told (scalars_of m) p told).1 in
+      rw (← is) (quiet_left rows m p (after_normal (scalars_of m) p) (told ∙ ap Some (sym is)) ∙ sound_in_parts (Sample p) z sound)
 
   performed_in_parts_lem : (p : ReadCall) → Sized m.logs → sound_meter rows m ≡ true → performed_in_parts rows m p ≡ performed rows m p
   performed_in_parts_lem (Ok c) z e = sound_in_parts c z e

@@ -10,8 +10,7 @@ use mir.Val.{to_z, of_z, SFits}
 use Rattle.base.specs.Tests.{within, among, any, eq_z}
 use Rattle.limiter.specs.declared.Limiter.{Limiter}
 use Rattle.emergency.specs.declared.Emergency.{Emergency}
-use Rattle.emergency.specs.declared.Lookup.{Lookup}
-use Rattle.emergency.specs.declared.Lookup.TheVariants.{Listed, NotListed}
+use Rattle.std.specs.Prelude.{Option, Some, None}
 use Rattle.emergency.specs.Emergency.{groups_in, listed_of, with_profile, in_force}
 use Rattle.history.specs.OnePhase.{profile_with}
 use Rattle.machine.specs.Values.{with_limiters, with_emergency}
@@ -25,17 +24,17 @@ use Rattle.steps.specs.Step.{step_for, step_of, step_with}
 use Rattle.steps.proofs.Steps.{same_number}
 
 -- what the lookup tells
-pub not_in_group : {x : Lookup} (gs : List ℕ) (i : ℕ) → x ≡ listed_of gs i → x ≡ NotListed → among gs i ≡ false
+pub not_in_group : {x : Option ℕ} (gs : List ℕ) (i : ℕ) → x ≡ listed_of gs i → x ≡ None → among gs i ≡ false
 not_in_group gs i found told = go (among gs i) (sym told ∙ found)
   where
-    go : (b : Bool) → NotListed ≡ cond b (Listed i) NotListed → b ≡ false
+    go : (b : Bool) → None ≡ cond b (Some i) None → b ≡ false
     go true e = cc
     go false e = refl
 
-pub in_group : {x : Lookup} {j : ℕ} (gs : List ℕ) (i : ℕ) → x ≡ listed_of gs i → x ≡ Listed j → (among gs i ≡ true) × (j ≡ i)
+pub in_group : {x : Option ℕ} {j : ℕ} (gs : List ℕ) (i : ℕ) → x ≡ listed_of gs i → x ≡ Some j → (among gs i ≡ true) × (j ≡ i)
 in_group {j = j} gs i found told = go (among gs i) (sym told ∙ found)
   where
-    go : (b : Bool) → Listed j ≡ cond b (Listed i) NotListed → (b ≡ true) × (j ≡ i)
+    go : (b : Bool) → Some j ≡ cond b (Some i) None → (b ≡ true) × (j ≡ i)
     go true e = (refl, cc)
     go false e = (cc, cc)
 

@@ -27,7 +27,8 @@ use Rattle.machine.specs.Machine.{reconnect_tried, after_sample, followed, sampl
 use Rattle.steps.specs.declared.Scalars.{Scalars}
 use Rattle.steps.specs.declared.Step.{Step}
 use Rattle.steps.specs.Scalars.{values_of}
-use Rattle.steps.specs.Step.{quiet_sample, step_for, led_by, ended_by}
+use Rattle.std.specs.Prelude.{Some, None}
+use Rattle.steps.specs.Step.{after_normal, is_quiet, quiet_sample, step_for, led_by, ended_by}
 
 -- ---- what the one limiter tells
 module _ (s : Scalars) (w : Watched) where
@@ -240,11 +241,24 @@ module _ (s : Scalars) (p : ℤ) where
   unfolding sample_result each_from
   sample_made = let d = started (held (s.clock + 1)) s.emergency in made d (ended d)
 
-  -- without a profile no other threshold is in force before or after; a sample that does not fire either owes no line
-  pub quiet_made : (quiet_sample s p).quiet ≡ true
-      → step_for (owing (values_of (quiet_sample s p).scalars) 3 []) ≡ step_for (sample_result (values_of s) (p ∷ []))
-  quiet_made q = sym (sample_made ∙ ap₂ made_step started_none ended_none ∙ unchanged ∙ sym (after_none (quiet_sample s p).scalars w silent))
+  -- what it tells that there are scalars after a quiet sample
+  pub quiet_told : {next : Scalars} → quiet_sample s p ≡ Some next → (is_quiet s p ≡ true) × (after_normal s p ≡ next)
+  quiet_told {next} told = go (is_quiet s p) refl told
     where
+      go : (b : Bool) → is_quiet s p ≡ b → cond b (Some (after_normal s p)) None ≡ Some next → (is_quiet s p ≡ true) × (after_normal s p ≡ next)
+      go true q e = (q, cc)
+      go false q e = cc
+
+  -- without a profile no other threshold is in force before or after; a sample that does not fire either owes no line
+  pub quiet_made : {next : Scalars} → quiet_sample s p ≡ Some next
+      → step_for (owing (values_of next) 3 []) ≡ step_for (sample_result (values_of s) (p ∷ []))
+  quiet_made {next} told =
+      rw (← (quiet_told told).1)
+      (sym (sample_made ∙ ap₂ made_step started_none ended_none ∙ unchanged ∙ sym (after_none (after_normal s p) w silent)))
+    where
+      q : is_quiet s p ≡ true
+      q = (quiet_told told).0
+
       e : Emergency
       e = s.emergency
 
@@ -263,7 +277,7 @@ module _ (s : Scalars) (p : ℤ) where
       ended_none : ended (started (held (s.clock + 1)) e) ≡ e
       ended_none = ap ended started_none ∙ rw none
 
-      unchanged : made_step e e ≡ step_for (after_sample (values_of (quiet_sample s p).scalars) [] (w ∷ []))
+      unchanged : made_step e e ≡ step_for (after_sample (values_of (after_normal s p)) [] (w ∷ []))
       unchanged = rw (same_number (in_force e s.limiter.threshold), none)
 
   -- ---- the same as the code comes to it, step by step

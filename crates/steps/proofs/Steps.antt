@@ -13,7 +13,9 @@ use mir.Syntax.{w32}
 use types.Run.{OneOf, miss}
 use denote.Enum.Declared.{tag_of}
 use borrow.Author.Tests.{le-leb, le-ltb}
-use Rattle.base.specs.Tests.{within}
+use Rattle.base.specs.Tests.{within, eq_z}
+use Rattle.base.proofs.Prelude.{by_test, ne_eqb, eq-eqb, false≢true}
+use Rattle.base.proofs.Signed.{number_same, same_number as eq_same}
 use Rattle.events.specs.Table.{EventRow}
 use Rattle.control.specs.declared.Request.TheVariants.{ManualReconnect}
 use Rattle.control.specs.declared.Decision.{Decision}
@@ -45,6 +47,16 @@ sign (negsuc a) b e = ap not e
 
 pub same_number : (z : ℤ) → SFits w32 z → to_z w32 (of_z w32 z) ≡ z
 same_number z h = to_z-of_z {w = w32} {z = z} h
+
+-- two numbers of which the bits are compared
+pub same_bits : (a b : ℤ) → to_z w32 (of_z w32 a) ≡ a → to_z w32 (of_z w32 b) ≡ b → eqb (of_z w32 a) (of_z w32 b) ≡ eq_z a b
+same_bits a b p q =
+    by_test (eq_z a b) (λ e. rw (e, number_same a b e, eq-eqb (of_z w32 b) (of_z w32 b) refl))
+    (λ n. rw (
+      n,
+      ne_eqb (of_z w32 a) (of_z w32 b)
+          (λ e. let s : a ≡ b = sym p ∙ ap (to_z w32) e ∙ q in false≢true (sym n ∙ rw s (eq_same b))),
+    ))
 
 pub threshold_sign : (z : ℤ) (b : Bool) → SFits w32 z → lt_z (to_z w32 (of_z w32 z)) (pos 0) ≡ b → le_z (pos 0) z ≡ not b
 threshold_sign z b h e = sign z b (rw (same_number z h) at e)

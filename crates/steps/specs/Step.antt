@@ -1,12 +1,12 @@
 -- What a call makes of the scalars, as the code has it: the next scalars, the answer, the letter of its move, and what is done to the
 -- logs.
-use Rattle.std.specs.Prelude.{ℕ, ◌+◌, List, [], ◌∷◌, map, ◌&&◌, not, eqb, ℤ, length, get_or, set}
+use Rattle.std.specs.Prelude.{ℕ, ◌+◌, Bool, List, [], ◌∷◌, map, ◌&&◌, not, eqb, ℤ, length, get_or, set, cond, Option, Some, None}
 use Rattle.base.specs.Numbers.{held}
 use Rattle.events.specs.Table.{EventRow}
 use Rattle.logs.specs.Layout.{line_clock, line_code}
 use Rattle.calls.specs.declared.Call.{Call}
 use Rattle.calls.specs.declared.Answer.TheVariants.{Accepted, Refused}
-use Rattle.calls.specs.declared.Letter.TheVariants.{None}
+use Rattle.calls.specs.declared.Letter.TheVariants as letters
 use Rattle.history.specs.OnePhase.{as_call}
 use Rattle.machine.specs.Machine.{Change, Result, refusing, making, result}
 use Rattle.limiter.specs.declared.Limiter.{Limiter}
@@ -15,7 +15,6 @@ use Rattle.emergency.specs.declared.Emergency.{Emergency}
 use Rattle.status.specs.declared.StatusStep.{StatusStep}
 use Rattle.status.specs.Step.{in_places}
 use Rattle.steps.specs.declared.Scalars.{Scalars}
-use Rattle.steps.specs.declared.QuietSample.{QuietSample}
 use Rattle.steps.specs.declared.Step.{Step}
 use Rattle.steps.specs.Scalars.{values_of, scalars_with, scalars_from}
 
@@ -39,26 +38,29 @@ step_for k =
 
 -- a result: refused, the scalars are those that came in, and nothing is owed
 abbrev pub step_of : Scalars → Result → Step
-step_of s (refusing n) = record { scalars = s; answer = Refused n; letter = None; cleared = 0; log = 0; count = 0; clocks = in_places []; codes = in_places [] }
+step_of s (refusing n) = record { scalars = s; answer = Refused n; letter = letters.None; cleared = 0; log = 0; count = 0; clocks = in_places []; codes = in_places [] }
 step_of s (making k) = step_for k
 
--- a sample that finds no profile is judged by the normal threshold; where it does not fire, these are the scalars after it, and it owes no line: it is
--- quiet, which is no word of the documents
-abbrev pub quiet_sample : Scalars → ℤ → QuietSample
-quiet_sample s p =
-    let w = sampled_power s.limiter s.limiter.threshold p in
+-- the scalars after a sample that is judged by the normal threshold
+abbrev pub after_normal : Scalars → ℤ → Scalars
+after_normal s p =
     record {
-      scalars =
-          record {
-            control = s.control;
-            limiter = w.limiter;
-            clock = held (s.clock + 1);
-            alarms = s.alarms;
-            errors = s.errors;
-            emergency = s.emergency;
-          };
-      quiet = eqb s.emergency.state 0 && not w.fired;
+      control = s.control;
+      limiter = (sampled_power s.limiter s.limiter.threshold p).limiter;
+      clock = held (s.clock + 1);
+      alarms = s.alarms;
+      errors = s.errors;
+      emergency = s.emergency;
     }
+
+-- a sample that finds no profile is judged by the normal threshold; where it does not fire, it owes no line: it is quiet, which is no word of the
+-- documents
+abbrev pub is_quiet : Scalars → ℤ → Bool
+is_quiet s p = eqb s.emergency.state 0 && not (sampled_power s.limiter s.limiter.threshold p).fired
+
+-- the scalars after a quiet sample
+abbrev pub quiet_sample : Scalars → ℤ → Option Scalars
+quiet_sample s p = cond (is_quiet s p) (Some (after_normal s p)) None
 
 -- a step of the status, with a limiter, and a profile and groups
 abbrev pub step_with : Limiter → Emergency → StatusStep → Step

@@ -8,7 +8,6 @@ ghost use Rattle.steps.specs.Step.{step_of};
 use crate::sampling::restarted;
 use crate::{Scalars, Step};
 use calls::Letter;
-use emergency::Lookup;
 
 impl Scalars {
     // Two ids to a number, the high half first. The count is judged at its full width.
@@ -31,6 +30,7 @@ impl Scalars {
         self.emergency = self.emergency.set_groups(count as u8, ids);
         self.with(self.status().accepted(0))
     }
+
     // The id is looked up at its full width. A profile that waits leaves the normal threshold in force,
     // so that the change goes from what was in force to that.
     pub(crate) fn set_profile(
@@ -42,18 +42,15 @@ impl Scalars {
     ) -> Step
         ensures { result ≡ step_of self (profile_result (values_of self) (profile_with id threshold activation duration)) }
     {
-        let group = self.emergency.find(id);
-        let Lookup::Listed(found) = group else {
+        let Some(found) = self.emergency.find(id) else {
             return self.with(self.status().refused(15));
         };
         if !(emergency::is_duration(duration) & (0 <= threshold)) {
             return self.with(self.status().refused(16));
         }
-        let limiter = self.limiter;
-        let normal = limiter.threshold;
-        let before = self.emergency.in_force(normal);
-        let same = base::equal(before, normal);
-        self.limiter = restarted(limiter, same);
+        let normal = self.limiter.threshold;
+        let same = self.emergency.in_force(normal) == normal;
+        self.limiter = restarted(self.limiter, same);
         self.emergency = self
             .emergency
             .set_profile(found, threshold, activation, duration);

@@ -41,8 +41,7 @@ impl Scalars {
         ensures { result ≡ step_of self (request_result (values_of self) ManualReconnect) }
     {
         let step = self.status().request(Request::ManualReconnect);
-        let letter = step.letter;
-        let Letter::E = letter else {
+        let Letter::E = step.letter else {
             return self.with(step);
         };
         self.limiter = self.limiter.arm();

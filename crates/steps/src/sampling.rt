@@ -7,12 +7,13 @@ ghost use Rattle.machine.specs.Machine.{line_now, moving, decided, restarted_by,
 ghost use Rattle.steps.specs.Scalars.{values_of};
 ghost use Rattle.steps.specs.Step.{quiet_sample, step_for, led_by, ended_by};
 
-use crate::{LINES, QuietSample, Scalars, Step};
+use crate::{LINES, Scalars, Step};
 use calls::Letter;
 use control::{Decision, Request};
 use limiter::Limiter;
 
-// A new run if another threshold is in force.
+// A new run if another threshold is in force. Told so, and not by the thresholds: the same answer also
+// says whether a line is left.
 pub(crate) fn restarted(limiter: Limiter, same: bool) -> Limiter
     ensures { result ≡ restarted_by same limiter }
 {
@@ -49,12 +50,8 @@ impl Step {
         if same | (LINES <= at) {
             return self;
         }
-        let mut clocks = self.clocks;
-        clocks[at] = self.scalars.clock;
-        self.clocks = clocks;
-        let mut codes = self.codes;
-        codes[at] = 67;
-        self.codes = codes;
+        self.clocks[at] = self.scalars.clock;
+        self.codes[at] = 67;
         self.count = at + 1;
         self
     }
@@ -67,8 +64,7 @@ impl Scalars {
         ensures { result ≡ step_for (moving (values_of self) (line_now (values_of self) code ∷ []) (decided (values_of self) request)) }
     {
         let status = self.status();
-        let decision = status.decide(request);
-        match decision {
+        match status.decide(request) {
             Decision::Move {
                 to,
                 code: next,
@@ -91,27 +87,26 @@ impl Scalars {
         if !fired {
             return self.with(self.status().accepted(3));
         }
-        let limiter = self.limiter;
-        if limiter.exceeded {
+        if self.limiter.exceeded {
             return self.fired(65, Request::LocalDisconnect);
         }
         self.fired(66, Request::LocalReconnect)
     }
 
-    // Nearly every sample finds no profile and does not fire: then it moves the clock and the run alone,
-    // and leaves no line. Where it is quiet, the scalars are those after it.
-    pub fn quiet_sample(mut self, power: i32) -> QuietSample
+    // Nearly every sample is quiet: it finds no emergency profile and does not fire. Then it moves the
+    // clock and the run alone, and leaves no line: these are the scalars after it.
+    pub fn quiet_sample(self, power: i32) -> Option<Scalars>
         ensures { result ≡ quiet_sample self power }
     {
-        let limiter = self.limiter;
-        let watched = limiter.sample(limiter.threshold, power);
-        let next = watched.limiter;
-        self.clock = base::next_held(self.clock);
-        self.limiter = next;
-        QuietSample {
-            scalars: self,
-            quiet: (self.emergency.state == 0) & !watched.fired,
+        let watched = self.limiter.sample(self.limiter.threshold, power);
+        if (self.emergency.state != 0) | watched.fired {
+            return None;
         }
+        Some(Scalars {
+            limiter: watched.limiter,
+            clock: base::next_held(self.clock),
+            ..self
+        })
     }
 
     // The clock goes on before anything else: a profile starts by it, and a line bears it.
@@ -119,19 +114,17 @@ impl Scalars {
         ensures { result ≡ step_for (sample_result (values_of self) (power ∷ [])) }
     {
         self.clock = base::next_held(self.clock);
-        let limiter = self.limiter;
-        let normal = limiter.threshold;
+        let normal = self.limiter.threshold;
         // The profile takes both its steps at once: `during` is what the sample is judged by.
         let before = self.emergency.in_force(normal);
         self.emergency = self.emergency.start(self.clock);
         let during = self.emergency.in_force(normal);
         self.emergency = self.emergency.end();
         let after = self.emergency.in_force(normal);
-        let starts_same = base::equal(before, during);
-        let ends_same = base::equal(during, after);
-        let watched = restarted(limiter, starts_same).sample(during, power);
-        let judged = watched.limiter;
-        self.limiter = restarted(judged, ends_same);
+        let starts_same = before == during;
+        let ends_same = during == after;
+        let watched = restarted(self.limiter, starts_same).sample(during, power);
+        self.limiter = restarted(watched.limiter, ends_same);
         self.watched(watched.fired)
             .led_by_change(starts_same)
             .ended_by_change(ends_same)

@@ -1,17 +1,14 @@
-use Rattle.base.proofs.Prelude.{rules}
-use Rattle.emergency.proofs.Places.{passed_none, passed_one, passed_found, passed_all}
+use Rattle.base.proofs.Prelude.{◌∙◌, take, eqb, rules}
+use Rattle.base.proofs.Tests.{tests}
+use Rattle.std.proofs.lemmas.Iterator.{YieldsList-from_slice, YieldsList-from_take}
+use Rattle.std.proofs.lemmas.Iterator.Search.{find_from_yields_List}
+use Rattle.emergency.proofs.Places.{found}
 use Rattle.emergency.proofs.groups.find.Goals as goal
 
-pub loop-i-init : goal.loop-i-init
-loop-i-init c = passed_none
-
-pub returns-then-i-held : goal.returns-then-i-held
-returns-then-i-held c =
-    rw (← c.as_index-held.ensures)
-    (passed_found c.loop-i.invariant (search rules) (search rules) c.if-i-held.true)
-
-pub loop-i-preserved : goal.loop-i-preserved
-loop-i-preserved c = passed_one c.loop-i.invariant (search rules) c.if-i-held.false
-
 pub returns : goal.returns
-returns c = rw (← c.as_index-held.ensures) (passed_all c.loop-i.invariant (search rules) (search rules))
+returns c =
+    let a = c.args in
+    c.copied.ensures
+    ∙ find_from_yields_List (λ id. eqb id a.asked) _ _ c.find.result c.find.ensures.ran
+    (YieldsList-from_take a.count (YieldsList-from_slice a.ids (cc)) (cc)) (λ x b q k. search (rules, tests))
+    ∙ found (take a.count a.ids) a.asked

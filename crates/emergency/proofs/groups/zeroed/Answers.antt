@@ -1,12 +1,10 @@
-use Rattle.base.proofs.Prelude.{rules}
-use Rattle.emergency.proofs.Places.{zeroed_none, zeroed_one, zeroed_all}
+use Rattle.base.proofs.Prelude.{◌≡◌, ◌-◌, length, min, replicate, rules}
+use Rattle.emergency.proofs.Places.{zeroed}
 use Rattle.emergency.proofs.groups.zeroed.Goals as goal
 
-pub loop-i-init : goal.loop-i-init
-loop-i-init c = rw c.as_index-i.ensures (zeroed_none (search rules))
-
-pub loop-i-preserved : goal.loop-i-preserved
-loop-i-preserved c = zeroed_one c.loop-i.invariant (search rules)
-
 pub returns : goal.returns
-returns c = zeroed_all c.loop-i.invariant (search rules)
+returns c =
+    let held : c.from-held.result ≡ min c.args.count 8 = search rules in
+    let zeros : c.fill.new.self ≡ replicate (8 - c.from-held.result) 0 = search rules in
+    let eight : length c.args.ids ≡ 8 = search rules in
+    rw (zeros, held) (zeroed c.args.count c.args.ids eight)

@@ -39,13 +39,13 @@ returns-then-not-sound c =
       simulation = claims.1.1;
     }
 
-pub returns-then-sampled : goal.returns-then-sampled
-returns-then-sampled c =
+pub returns-in-Some : goal.returns-in-Some
+returns-in-Some c =
     let a = c.args in record {
       value = rw c.in-Sample.is
-          (quiet_applied (table_in a.table.now) a.self c.in-Sample.power c.scalars.result c.quiet_sample-sampled.result (sized (goal.at.returns-then-sampled c).Start) (tested (goal.at.returns-then-sampled c).Else-not-sound)
-          c.scalars.ensures (c.quiet_sample-sampled.ensures ∙ ap (quiet_sample c.scalars.result) (search rules))
-          c.if-sampled.true);
+          (quiet_applied (table_in a.table.now) a.self c.in-Sample.power c.scalars.result c.in-Some.next (sized (goal.at.returns-in-Some c).Start)
+          (tested (goal.at.returns-in-Some c).Else-not-sound) c.scalars.ensures
+          (ap (quiet_sample c.scalars.result) (search rules) ∙ sym c.quiet_sample.ensures ∙ c.in-Some.is));
       laws = claims.0;
       examples = claims.1.0;
       simulation = claims.1.1;
