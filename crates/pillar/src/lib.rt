@@ -67,7 +67,10 @@ pub extern "C" fn pillar_fresh(
 pub extern "C" fn pillar_table(table: &[u8]) -> u32
     ensures { result ≡ table_refusal table.now }
 {
-    tables::judge(table) as u32
+    match tables::judge(table) {
+        Ok(()) => 0,
+        Err(refusal) => u32::from(refusal.number()),
+    }
 }
 
 // A command on the meter of a page, by an event table.
