@@ -68,10 +68,14 @@ abbrev pub get_response : ℕ → Option Data → Response
 get_response i (Some x) = GetData i x
 get_response i None = GetResult i ObjectUndefined
 
+-- what a row reads, where there is one
+abbrev pub read_at : Scalars → Option Item → Option Data
+read_at s None = None
+read_at s (Some a) = read_of s a.reads
+
 -- of a row
 abbrev pub get_at : Scalars → ℕ → Option Item → Response
-get_at s i None = GetResult i ObjectUndefined
-get_at s i (Some a) = get_response i (read_of s a.reads)
+get_at s i o = get_response i (read_at s o)
 
 -- of an attribute
 unfoldable pub get_on : Scalars → ℕ → Descriptor → Response

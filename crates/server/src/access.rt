@@ -1,8 +1,8 @@
 // What a whole request comes to, on a record.
-ghost use Rattle.std.specs.Prelude.{◌≡◌};
+ghost use Rattle.std.specs.Prelude.{◌≡◌, false};
 ghost use Rattle.tables.specs.Index.{table_in};
 ghost use Rattle.server.specs.Objects.{items, item_at};
-ghost use Rattle.server.specs.Access.{unchanged_with, called_on, call_at, access_on, get_on, responded_on};
+ghost use Rattle.server.specs.Access.{unchanged_with, called_on, call_at, access_on, read_at, get_on, responded_on};
 
 use crate::{Accessed, Responded, naming, objects, reading};
 use calls::{Answer, Call, Letter};
@@ -72,17 +72,23 @@ fn access_on(
     }
 }
 
+// The value of an attribute, where there is one.
+fn read_on(scalars: Scalars, about: Descriptor) -> Option<Data>
+    ensures { result ≡ read_at scalars (item_at items false about) }
+{
+    let row = objects::find(false, about)?;
+    let value = row.reads?;
+    Some(reading::value_of(scalars, value))
+}
+
 // A GET of an attribute.
 fn get_on(scalars: Scalars, invoke: u8, about: Descriptor) -> Response
     ensures { result ≡ get_on scalars invoke about }
 {
-    let Some(row) = objects::find(false, about) else {
-        return Response::GetResult(invoke, AccessResult::ObjectUndefined);
-    };
-    let Some(value) = row.reads else {
-        return Response::GetResult(invoke, AccessResult::ObjectUndefined);
-    };
-    Response::GetData(invoke, reading::value_of(scalars, value))
+    match read_on(scalars, about) {
+        Some(value) => Response::GetData(invoke, value),
+        None => Response::GetResult(invoke, AccessResult::ObjectUndefined),
+    }
 }
 
 // A request.

@@ -1,14 +1,10 @@
 use Rattle.server.specs.Access.{get_on}
 use Rattle.server.proofs.access.get_on.Goals as goal
 
-pub returns-in_default : goal.returns-in_default
+pub returns-in-Some : goal.returns-in-Some
 unfolding get_on
-returns-in_default c = rw (← c.in_default.ensures)
+returns-in-Some c = rw (← c.in-Some.ensures)
 
-pub returns-in_default-reads : goal.returns-in_default-reads
+pub returns-in-None : goal.returns-in-None
 unfolding get_on
-returns-in_default-reads c = rw (← c.in-Some.ensures, c.in_default-reads.is)
-
-pub returns : goal.returns
-unfolding get_on
-returns c = rw (← c.in-Some.ensures, c.in-Some-reads.is, c.value_of.ensures)
+returns-in-None c = rw (← c.in-None.ensures)
