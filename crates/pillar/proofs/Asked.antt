@@ -7,13 +7,12 @@ use native.Mathlib.Omega.{arith}
 use lib.Dec.{ltb}
 use lib.ListN.{length}
 use borrow.Author.Tests.{lt-ltb, le-ltb}
+use Rattle.std.specs.Prelude.{Ok, Err}
 use Rattle.events.specs.Table.{EventRow}
 use Rattle.calls.specs.declared.Answer.{Answer}
 use Rattle.calls.specs.declared.Answer.TheVariants.{Accepted, Refused}
 use Rattle.calls.specs.Calls.{answer_number, letter_byte}
-use Rattle.requests.specs.declared.Parsed.{Parsed}
-use Rattle.requests.specs.declared.Parsed.TheVariants.{Ok, NotWhole}
-use Rattle.requests.specs.Requests.{request_in}
+use Rattle.requests.specs.Requests.{Parsed, request_in}
 use Rattle.meter.specs.declared.Meter.{Meter}
 use Rattle.meter.specs.declared.Outcome.{Outcome}
 use Rattle.page.specs.Layout.{write_answer, written, read_of}
@@ -31,7 +30,7 @@ refused_sound rows m s l n = go (ltb (length l) 32) (request_in s)
 
     go : (c : Bool) (p : Parsed) → (cond c (refused_with m 21) (parsed_on rows m p)).answer ≡ Refused n → cond c (refused_with m 21) (parsed_on rows m p) ≡ refused_with m n
     go true p e = with_number 21 e
-    go false NotWhole e = with_number 20 e
+    go false (Err x) e = with_number 20 e
     go false (Ok r) e = absurd (let z : ◌≡◌ {A = ℕ} 0 1 = cc in omega arith)
 
 module _ (rows : List EventRow) (page s l : List ℕ) where

@@ -7,6 +7,7 @@ use native.Mathlib.Omega.{arith}
 use lib.Dec.{ltb, leb}
 use lib.ListN.{length, drop_of_length-le}
 use borrow.Author.Tests.{le-leb}
+use Rattle.std.specs.Prelude.{Ok, Err}
 use Rattle.base.specs.Tests.{every}
 use Rattle.codec.specs.Lawful.{Bytes}
 use Rattle.events.specs.Table.{EventRow, lawful}
@@ -21,9 +22,7 @@ use Rattle.calls.specs.declared.Parsed.{Parsed as CallParsed}
 use Rattle.calls.specs.declared.Parsed.TheVariants as call_parsed
 use Rattle.calls.specs.Calls.{answer_number, letter_byte, call_of, InRange, AllInRange}
 use Rattle.history.specs.OnePhase.{Fresh, account}
-use Rattle.requests.specs.declared.Parsed.{Parsed}
-use Rattle.requests.specs.declared.Parsed.TheVariants.{Ok, NotWhole}
-use Rattle.requests.specs.Requests.{request_in}
+use Rattle.requests.specs.Requests.{Parsed, request_in}
 use Rattle.requests.proofs.Laws.{laws as reading_laws}
 use Rattle.meter.specs.declared.Meter.{Meter}
 use Rattle.meter.specs.Sound.{sound_meter}
@@ -62,7 +61,7 @@ module _ (rows : List EventRow) (m : Meter) where
       go : (b : Bool) (p : Parsed) → (cond b (refused_with m 21) (parsed_on rows m p)).carried ≡ false
           → (cond b (refused_with m 21) (parsed_on rows m p)).meter ≡ m
       go true p e = refl
-      go false NotWhole e = refl
+      go false (Err x) e = refl
       go false (Ok r) e = (unchanged rows m r e).0
 
   module _ (table : every lawful rows ≡ true) (sized : Sized m.logs) (q : sound_meter rows m ≡ true) where
@@ -72,7 +71,7 @@ module _ (rows : List EventRow) (m : Meter) where
       where
         go : (c : Bool) (p : Parsed) → request_in s ≡ p → sound_meter rows (cond c (refused_with m 21) (parsed_on rows m p)).meter ≡ true
         go true p e = q
-        go false NotWhole e = q
+        go false (Err x) e = q
         go false (Ok r) e = kept_sound rows table m r sized (reading_laws.read_in_range s r b e) q
 
 -- the writer takes a sound record into a page's bytes
@@ -141,7 +140,7 @@ module _ (rows : List EventRow) (table : every lawful rows ≡ true) (page s l :
 
       whole_number : (c : Bool) (p : Parsed) → c ≡ false → answer_number (cond c (refused_with m 21) (parsed_on rows m p)).answer ≡ cond (is_whole p) 0 20
       whole_number false (Ok r) e = refl
-      whole_number false NotWhole e = refl
+      whole_number false (Err x) e = refl
       whole_number true p e = absurd (false≢true (sym e))
 
       go : (c : Bool) (a : Answer) → ltb (length l) 32 ≡ c → (read_of rows page).answer ≡ a
@@ -166,7 +165,7 @@ module _ (rows : List EventRow) (table : every lawful rows ≡ true) (page s l :
       go : (c : Bool) (a : Answer) (p : Parsed) → (w c a p).answer ≡ Refused n → w c a p ≡ refused_with m n
       go true a p e = with_number 21 e
       go false (Refused k) p e = with_number k e
-      go false Accepted NotWhole e = with_number 20 e
+      go false Accepted (Err x) e = with_number 20 e
       go false Accepted (Ok r) e = absurd (let z : ◌≡◌ {A = ℕ} 0 1 = cc in omega arith)
 
   unread : (n : ℕ) → (read_of rows page).answer ≡ Refused n → (service_on rows page s l).answer ≡ Accepted → ⊥

@@ -6,10 +6,9 @@ use lib.ListN.{get_or, length}
 use Prim.Native.Nat.{◌<◌, ◌≤◌}
 use lib.Dec.{eqb}
 use borrow.Author.Tests.{eq-eqb, ne_eqb, lt-ltb, le-ltb}
-use Rattle.requests.specs.declared.Parsed.TheVariants.{NotWhole}
 use Rattle.codec.specs.Format.{num_at}
 use Rattle.codec.proofs.Numbers.{num_at_byte, num_at_halves}
-use Rattle.requests.specs.Requests.{head_format, short_format, long_format, short_data, long_data, data_in, descriptor_in, request_of, request_in}
+use Rattle.requests.specs.Requests.{not_whole, head_format, short_format, long_format, short_data, long_data, data_in, descriptor_in, request_of, request_in}
 
 module _ (s : List ℕ) where
   pub head_in : head_format.dec s 0 ≡ (get_or s 0 0, (get_or s 1 0, (get_or s 2 0, (num_at 2 s 3, (num_at 6 s 5, (get_or s 11 0, get_or s 12 0))))))
@@ -36,11 +35,11 @@ module _ (s : List ℕ) where
   unfolding descriptor_in
   descriptor_bytes = rw (name_in, num_at_byte s 11)
 
-  pub cut : length s < 13 → NotWhole ≡ request_in s
+  pub cut : length s < 13 → not_whole ≡ request_in s
   unfolding request_in
   cut h = rw (lt-ltb (length s) 13 h)
 
-  pub no_choice : 13 ≤ length s → (get_or s 1 0 ≡ 1 → ⊥) → NotWhole ≡ request_in s
+  pub no_choice : 13 ≤ length s → (get_or s 1 0 ≡ 1 → ⊥) → not_whole ≡ request_in s
   unfolding request_in
   no_choice h n = rw (le-ltb (length s) 13 h, num_at_byte s 1, ne_eqb (get_or s 1 0) 1 n)
 

@@ -11,16 +11,14 @@ use Rattle.base.proofs.Bools.{and_left, and_right}
 use Rattle.codec.specs.Format.{num_at}
 use Rattle.codec.specs.Lawful.{Lawful, Bytes}
 use Rattle.codec.proofs.Formats.{num_lawful, pair_lawful}
+use Rattle.std.specs.Prelude.{Option, Some, None, Ok}
 use Rattle.requests.specs.declared.Data.{Data}
 use Rattle.requests.specs.declared.Data.TheVariants.{Boolean, DoubleLong, DoubleLongUnsigned, Integer, Enum}
-use Rattle.requests.specs.declared.OptionalData.{OptionalData}
-use Rattle.requests.specs.declared.OptionalData.TheVariants.{Absent, Present}
 use Rattle.requests.specs.declared.Descriptor.{Descriptor}
 use Rattle.requests.specs.declared.Request.{Request}
 use Rattle.requests.specs.declared.Request.TheVariants.{Get, Set, Action}
-use Rattle.requests.specs.declared.Parsed.TheVariants.{Ok, NotWhole}
 use Rattle.requests.specs.Requests.{Head, head_format, short_format, long_format, data_bytes, head_of, head_bytes, request_bytes, short_data, long_data, data_in}
-use Rattle.requests.specs.Requests.{descriptor_of, descriptor_in, setting, acting, request_of, request_in, DataInRange, DescriptorInRange, RequestInRange}
+use Rattle.requests.specs.Requests.{not_whole, descriptor_of, descriptor_in, setting, acting, request_of, request_in, DataInRange, DescriptorInRange, RequestInRange}
 use Rattle.requests.specs.Laws.{Laws}
 
 head_lawful : Lawful head_format
@@ -46,12 +44,12 @@ record Behind (tail : List ℕ) (v : Data) : Type 0 where
   pub range : DataInRange v
 
 -- a request by its tag: what stands behind the head
-module _ (tag flag : ℕ) (bare : Bool) (i : ℕ) (d : Descriptor) (x : OptionalData) (tail : List ℕ) (r : Request) (hi : i < 256) (hd : DescriptorInRange d)
-    (nothing : bare ≡ true → tail ≡ []) (value : (v : Data) → x ≡ Present v → Behind tail v) where
+module _ (tag flag : ℕ) (bare : Bool) (i : ℕ) (d : Descriptor) (x : Option Data) (tail : List ℕ) (r : Request) (hi : i < 256) (hd : DescriptorInRange d)
+    (nothing : bare ≡ true → tail ≡ []) (value : (v : Data) → x ≡ Some v → Behind tail v) where
   abbrev Read : Type 0
   Read = Whole tag flag i d tail r
 
-  got : (t : Bool) → bare && eqb flag 0 ≡ t → tag ≡ 192 → cond t (Ok (Get i d)) NotWhole ≡ Ok r → Read
+  got : (t : Bool) → bare && eqb flag 0 ≡ t → tag ≡ 192 → cond t (Ok (Get i d)) not_whole ≡ Ok r → Read
   unfolding request_bytes
   got true q e h =
       let z : Get i d ≡ r = cc in
@@ -62,38 +60,38 @@ module _ (tag flag : ℕ) (bare : Bool) (i : ℕ) (d : Descriptor) (x : Optional
       }
   got false q e h = absurd (let z : ◌≡◌ {A = ℕ} 0 1 = cc in omega arith)
 
-  was_set : (t : Bool) → eqb flag 0 ≡ t → tag ≡ 193 → (y : OptionalData) → x ≡ y → cond t (setting i d y) NotWhole ≡ Ok r → Read
+  was_set : (t : Bool) → eqb flag 0 ≡ t → tag ≡ 193 → (y : Option Data) → x ≡ y → cond t (setting i d y) not_whole ≡ Ok r → Read
   unfolding request_bytes
-  was_set true q e (Present v) w h =
+  was_set true q e (Some v) w h =
       let z : Set i d v ≡ r = cc in
       let b = value v w in
       record { back = rw (← z, e, eqb-true flag 0 q, b.back); range = rw (← z) (hi, (hd, b.range)) }
-  was_set true q e Absent w h = absurd (let z : ◌≡◌ {A = ℕ} 0 1 = cc in omega arith)
+  was_set true q e None w h = absurd (let z : ◌≡◌ {A = ℕ} 0 1 = cc in omega arith)
   was_set false q e y w h = absurd (let z : ◌≡◌ {A = ℕ} 0 1 = cc in omega arith)
 
-  acted : (t u : Bool) → eqb flag 0 && bare ≡ t → eqb flag 1 ≡ u → tag ≡ 195 → (y : OptionalData) → x ≡ y
-      → cond t (Ok (Action i d Absent)) (cond u (acting i d y) NotWhole) ≡ Ok r → Read
+  acted : (t u : Bool) → eqb flag 0 && bare ≡ t → eqb flag 1 ≡ u → tag ≡ 195 → (y : Option Data) → x ≡ y
+      → cond t (Ok (Action i d None)) (cond u (acting i d y) not_whole) ≡ Ok r → Read
   unfolding request_bytes
   acted true u q p e y w h =
-      let z : Action i d Absent ≡ r = cc in
+      let z : Action i d None ≡ r = cc in
       let f : flag ≡ 0 = eqb-true flag 0 (and_left (eqb flag 0) bare q) in
       record {
         back = rw (← z, e, f, nothing (and_right (eqb flag 0) bare q)) (sym (append-nil (head_bytes 195 i d 0)));
         range = rw (← z) (hi, hd);
       }
-  acted false true q p e (Present v) w h =
-      let z : Action i d (Present v) ≡ r = cc in
+  acted false true q p e (Some v) w h =
+      let z : Action i d (Some v) ≡ r = cc in
       let b = value v w in
       record { back = rw (← z, e, eqb-true flag 1 p, b.back); range = rw (← z) (hi, (hd, b.range)) }
-  acted false true q p e Absent w h = absurd (let z : ◌≡◌ {A = ℕ} 0 1 = cc in omega arith)
+  acted false true q p e None w h = absurd (let z : ◌≡◌ {A = ℕ} 0 1 = cc in omega arith)
   acted false false q p e y w h = absurd (let z : ◌≡◌ {A = ℕ} 0 1 = cc in omega arith)
 
   by_tag : request_of tag flag bare i d x ≡ Ok r → Read
   by_tag h = go (eqb tag 192) (eqb tag 193) (eqb tag 195) refl refl refl h
     where
       go : (a b c : Bool) → eqb tag 192 ≡ a → eqb tag 193 ≡ b → eqb tag 195 ≡ c
-          → cond a (cond (bare && eqb flag 0) (Ok (Get i d)) NotWhole) (cond b (cond (eqb flag 0) (setting i d x) NotWhole)
-          (cond c (cond (eqb flag 0 && bare) (Ok (Action i d Absent)) (cond (eqb flag 1) (acting i d x) NotWhole)) NotWhole)) ≡ Ok r
+          → cond a (cond (bare && eqb flag 0) (Ok (Get i d)) not_whole) (cond b (cond (eqb flag 0) (setting i d x) not_whole)
+          (cond c (cond (eqb flag 0 && bare) (Ok (Action i d None)) (cond (eqb flag 1) (acting i d x) not_whole)) not_whole)) ≡ Ok r
           → Read
       go true b c p q s g = got (bare && eqb flag 0) refl (eqb-true tag 192 p) g
       go false true c p q s g = was_set (eqb flag 0) refl (eqb-true tag 193 q) x refl g
@@ -101,20 +99,20 @@ module _ (tag flag : ℕ) (bare : Bool) (i : ℕ) (d : Descriptor) (x : Optional
       go false false false p q s g = absurd (let z : ◌≡◌ {A = ℕ} 0 1 = cc in omega arith)
 
 -- a value that is read is what stands there
-short_back : (t v : ℕ) (w : Data) → v < 256 → short_data t v ≡ Present w → Behind (short_format.enc (t, v)) w
+short_back : (t v : ℕ) (w : Data) → v < 256 → short_data t v ≡ Some w → Behind (short_format.enc (t, v)) w
 short_back t v w hv h = go (eqb t 3) (eqb t 15) (eqb t 22) refl refl refl h
   where
     go : (a b c : Bool) → eqb t 3 ≡ a → eqb t 15 ≡ b → eqb t 22 ≡ c
-        → cond a (Present (Boolean v)) (cond b (Present (Integer v)) (cond c (Present (Enum v)) Absent)) ≡ Present w → Behind (short_format.enc (t, v)) w
+        → cond a (Some (Boolean v)) (cond b (Some (Integer v)) (cond c (Some (Enum v)) None)) ≡ Some w → Behind (short_format.enc (t, v)) w
     go true b c p q s g = let z : Boolean v ≡ w = cc in record { back = rw (← z, eqb-true t 3 p); range = rw (← z) hv }
     go false true c p q s g = let z : Integer v ≡ w = cc in record { back = rw (← z, eqb-true t 15 q); range = rw (← z) hv }
     go false false true p q s g = let z : Enum v ≡ w = cc in record { back = rw (← z, eqb-true t 22 s); range = rw (← z) hv }
     go false false false p q s g = absurd (let z : ◌≡◌ {A = ℕ} 0 1 = cc in omega arith)
 
-long_back : (t v : ℕ) (w : Data) → v < 4294967296 → long_data t v ≡ Present w → Behind (long_format.enc (t, v)) w
+long_back : (t v : ℕ) (w : Data) → v < 4294967296 → long_data t v ≡ Some w → Behind (long_format.enc (t, v)) w
 long_back t v w hv h = go (eqb t 5) (eqb t 6) refl refl h
   where
-    go : (a b : Bool) → eqb t 5 ≡ a → eqb t 6 ≡ b → cond a (Present (DoubleLong v)) (cond b (Present (DoubleLongUnsigned v)) Absent) ≡ Present w
+    go : (a b : Bool) → eqb t 5 ≡ a → eqb t 6 ≡ b → cond a (Some (DoubleLong v)) (cond b (Some (DoubleLongUnsigned v)) None) ≡ Some w
         → Behind (long_format.enc (t, v)) w
     go true b p q g = let z : DoubleLong v ≡ w = cc in record { back = rw (← z, eqb-true t 5 p); range = rw (← z) hv }
     go false true p q g = let z : DoubleLongUnsigned v ≡ w = cc in record { back = rw (← z, eqb-true t 6 q); range = rw (← z) hv }
@@ -127,13 +125,13 @@ take_all (suc k) [] h = absurd (omega arith)
 take_all (suc k) (x ∷ xs) h = ap (λ (l : List ℕ). x ∷ l) (take_all k xs (omega arith))
 
 module _ (s : List ℕ) (b : Bytes s) where
-  data_back : (v : Data) → data_in s ≡ Present v → Behind (drop 13 s) v
+  data_back : (v : Data) → data_in s ≡ Some v → Behind (drop 13 s) v
   unfolding data_in
   data_back v h = go (eqb (length s) 15) (eqb (length s) 18) refl refl h
     where
       go : (t u : Bool) → eqb (length s) 15 ≡ t → eqb (length s) 18 ≡ u
           → cond t (short_data (short_format.dec s 13).0 (short_format.dec s 13).1)
-          (cond u (long_data (long_format.dec s 13).0 (long_format.dec s 13).1) Absent) ≡ Present v → Behind (drop 13 s) v
+          (cond u (long_data (long_format.dec s 13).0 (long_format.dec s 13).1) None) ≡ Some v → Behind (drop 13 s) v
       go true u p q g =
           let n = eqb-true (length s) 15 p in
           let w = short_back _ _ v (short_lawful.held_read s 13 b refl).1 g in
@@ -180,8 +178,8 @@ module _ (s : List ℕ) (b : Bytes s) where
   was_read r h = go (ltb (length s) 13) (eqb (num_at 1 s 1) 1) refl refl h
     where
       go : (t u : Bool) → ltb (length s) 13 ≡ t → eqb (num_at 1 s 1) 1 ≡ u
-          → cond t NotWhole (cond u (request_of (head_format.dec s 0).0 (head_format.dec s 0).1.1.1.1.1.1 (eqb (length s) 13)
-          (head_format.dec s 0).1.1.0 (descriptor_in s) (data_in s)) NotWhole) ≡ Ok r → (request_bytes r ≡ s) × RequestInRange r
+          → cond t not_whole (cond u (request_of (head_format.dec s 0).0 (head_format.dec s 0).1.1.1.1.1.1 (eqb (length s) 13)
+          (head_format.dec s 0).1.1.0 (descriptor_in s) (data_in s)) not_whole) ≡ Ok r → (request_bytes r ≡ s) × RequestInRange r
       go true u p q g = absurd (let z : ◌≡◌ {A = ℕ} 0 1 = cc in omega arith)
       go false true p q g =
           let w = by_tag _ _ (eqb (length s) 13) _ (descriptor_in s) (data_in s) (drop 13 s) r (head_lawful.held_read s 0 b refl).1.1.0 descriptor_range
@@ -209,8 +207,8 @@ module _ (tag flag i : ℕ) (d : Descriptor) (tail : List ℕ) (ht : tag < 256) 
   by_parts =
       let n : 13 ≤ length bytes = omega (arith, length-append (head_bytes tag i d flag) tail, head_length) in
       let by_head : Head → _ = λ (h : Head). cond (eqb h.1.0 1)
-      (request_of h.0 h.1.1.1.1.1.1 (eqb (length bytes) 13) h.1.1.0 (descriptor_of h) (data_in bytes)) NotWhole in
-      ap (λ (t : Bool). cond t NotWhole (by_head (head_format.dec bytes 0))) (le-ltb (length bytes) 13 n) ∙ ap by_head head_read
+      (request_of h.0 h.1.1.1.1.1.1 (eqb (length bytes) 13) h.1.1.0 (descriptor_of h) (data_in bytes)) not_whole in
+      ap (λ (t : Bool). cond t not_whole (by_head (head_format.dec bytes 0))) (le-ltb (length bytes) 13 n) ∙ ap by_head head_read
 
 -- a value behind thirteen bytes
 module _ (p : List ℕ) (n : length p ≡ 13) where
@@ -221,7 +219,7 @@ module _ (p : List ℕ) (n : length p ≡ 13) where
       let l : length s ≡ 15 = omega (arith, length-append p (short_format.enc (t, v)), short_lawful.length_enc (t, v) (a, b)) in
       let r : short_format.dec s 13 ≡ (t, v) = rw (append-nil, n) at (short_lawful.read_written (t, v) (a, b) p []) in
       ap (λ (k : ℕ). cond (eqb k 15) (short_data (short_format.dec s 13).0 (short_format.dec s 13).1)
-      (cond (eqb k 18) (long_data (long_format.dec s 13).0 (long_format.dec s 13).1) Absent)) l
+      (cond (eqb k 18) (long_data (long_format.dec s 13).0 (long_format.dec s 13).1) None)) l
       ∙ ap (λ (q : ℕ × ℕ). short_data q.0 q.1) r
 
   long_there : (t v : ℕ) → t < 256 → v < 4294967296 → data_in (p ++ long_format.enc (t, v)) ≡ long_data t v
@@ -231,10 +229,10 @@ module _ (p : List ℕ) (n : length p ≡ 13) where
       let l : length s ≡ 18 = omega (arith, length-append p (long_format.enc (t, v)), long_lawful.length_enc (t, v) (a, b)) in
       let r : long_format.dec s 13 ≡ (t, v) = rw (append-nil, n) at (long_lawful.read_written (t, v) (a, b) p []) in
       ap (λ (k : ℕ). cond (eqb k 15) (short_data (short_format.dec s 13).0 (short_format.dec s 13).1)
-      (cond (eqb k 18) (long_data (long_format.dec s 13).0 (long_format.dec s 13).1) Absent)) l
+      (cond (eqb k 18) (long_data (long_format.dec s 13).0 (long_format.dec s 13).1) None)) l
       ∙ ap (λ (q : ℕ × ℕ). long_data q.0 q.1) r
 
-  data_there : (v : Data) → DataInRange v → data_in (p ++ data_bytes v) ≡ Present v
+  data_there : (v : Data) → DataInRange v → data_in (p ++ data_bytes v) ≡ Some v
   data_there (Boolean v) h = short_there 3 v (omega arith) h
   data_there (DoubleLong v) h = long_there 5 v (omega arith) h
   data_there (DoubleLongUnsigned v) h = long_there 6 v (omega arith) h
@@ -255,8 +253,8 @@ read_written (Get i d) h = bare_read 192 i d (omega arith) h.0 h.1
 read_written (Set i d x) h =
     by_parts 193 0 i d (data_bytes x) (omega arith) (omega arith) h.0 h.1.0
     ∙ ap (setting i d) (data_there (head_bytes 193 i d 0) (head_length 193 0 i d [] (omega arith) (omega arith) h.0 h.1.0) x h.1.1)
-read_written (Action i d Absent) h = bare_read 195 i d (omega arith) h.0 h.1
-read_written (Action i d (Present x)) h =
+read_written (Action i d None) h = bare_read 195 i d (omega arith) h.0 h.1
+read_written (Action i d (Some x)) h =
     by_parts 195 1 i d (data_bytes x) (omega arith) (omega arith) h.0 h.1.0
     ∙ ap (acting i d) (data_there (head_bytes 195 i d 1) (head_length 195 1 i d [] (omega arith) (omega arith) h.0 h.1.0) x h.1.1)
 

@@ -1,8 +1,7 @@
 -- What holds of the reading of requests: what a reader wants beside the definitions.
-use Rattle.std.specs.Prelude.{◌≡◌, List, ℕ}
+use Rattle.std.specs.Prelude.{◌≡◌, List, ℕ, Ok}
 use Rattle.codec.specs.Lawful.{Bytes}
 use Rattle.requests.specs.declared.Request.{Request}
-use Rattle.requests.specs.declared.Parsed.TheVariants.{Ok}
 use Rattle.requests.specs.Requests.{request_bytes, request_in, RequestInRange}
 
 -- of every request, and of any bytes: reading and writing are inverse, so that a request has one encoding, and nothing stands behind it

@@ -3,11 +3,12 @@
 #![tactic(auto)]
 
 ghost use Rattle.std.specs.Prelude.{◌≡◌};
-ghost use Rattle.requests.specs.Requests.{setting, acting, request_of, request_in};
+ghost use Rattle.requests.specs.Requests.{tag_of, request_of, request_in};
 ghost use Rattle.requests.specs.Laws.{Laws};
 ghost use Rattle.requests.specs.Examples.{Examples};
 
 mod described;
+pub mod tags;
 mod value;
 
 // A value with its type, one of the five that the meter takes.
@@ -23,16 +24,9 @@ pub enum Data {
     Enum(u8),
 }
 
-// A value, or none.
-#[derive(Clone, Copy)]
-pub enum OptionalData {
-    Absent,
-    Present(Data),
-}
-
 // A cosem-attribute-descriptor or a cosem-method-descriptor: class-id, logical name (the instance-id, six
 // bytes as one number, the highest first), attribute-id or method-id.
-#[derive(Clone, Copy)]
+#[derive(Clone, Copy, PartialEq, Eq)]
 pub struct Descriptor {
     pub class: u16,
     pub name: u64,
@@ -45,36 +39,35 @@ pub struct Descriptor {
 pub enum Request {
     Get(u8, Descriptor),
     Set(u8, Descriptor, Data),
-    Action(u8, Descriptor, OptionalData),
+    Action(u8, Descriptor, Option<Data>),
 }
+
+// What bytes are that are no whole request: refusal 20.
+#[derive(Clone, Copy)]
+pub struct NotWhole;
 
 // What bytes are read as.
-#[derive(Clone, Copy)]
-pub enum Parsed {
-    Ok(Request),
-    // Refusal 20.
-    NotWhole,
-}
+pub type Parsed = Result<Request, NotWhole>;
 
-// A SET, if a value stands behind its head.
-fn set(invoke: u8, descriptor: Descriptor, value: OptionalData) -> Parsed
-    ensures { result ≡ setting invoke descriptor value }
-{
-    match value {
-        OptionalData::Present(x) => Parsed::Ok(Request::Set(invoke, descriptor, x)),
-        OptionalData::Absent => Parsed::NotWhole,
-    }
-}
+// The tags of the requests.
+const GET: u8 = 192;
 
-// An ACTION with a parameter, if a value stands behind its head.
-fn act(invoke: u8, descriptor: Descriptor, value: OptionalData) -> Parsed
-    ensures { result ≡ acting invoke descriptor value }
-{
-    match value {
-        OptionalData::Present(x) => {
-            Parsed::Ok(Request::Action(invoke, descriptor, OptionalData::Present(x)))
+const SET: u8 = 193;
+
+const ACTION: u8 = 195;
+
+impl Data {
+    // The tag of the value's type.
+    pub fn tag(self) -> u8
+        ensures { result ≡ tag_of self }
+    {
+        match self {
+            Data::Boolean(_) => tags::BOOLEAN,
+            Data::DoubleLong(_) => tags::DOUBLE_LONG,
+            Data::DoubleLongUnsigned(_) => tags::DOUBLE_LONG_UNSIGNED,
+            Data::Integer(_) => tags::INTEGER,
+            Data::Enum(_) => tags::ENUM,
         }
-        OptionalData::Absent => Parsed::NotWhole,
     }
 }
 
@@ -85,33 +78,18 @@ fn by_tag(
     flag: u8,
     bare: bool,
     invoke: u8,
-    descriptor: Descriptor,
-    value: OptionalData,
+    about: Descriptor,
+    value: Option<Data>,
 ) -> Parsed
-    ensures { result ≡ request_of tag flag bare invoke descriptor value }
+    ensures { result ≡ request_of tag flag bare invoke about value }
 {
-    if tag == 192 {
-        if bare & (flag == 0) {
-            return Parsed::Ok(Request::Get(invoke, descriptor));
-        }
-        return Parsed::NotWhole;
+    match (tag, flag, value) {
+        (GET, 0, _) if bare => Ok(Request::Get(invoke, about)),
+        (SET, 0, Some(data)) => Ok(Request::Set(invoke, about, data)),
+        (ACTION, 0, _) if bare => Ok(Request::Action(invoke, about, None)),
+        (ACTION, 1, Some(data)) => Ok(Request::Action(invoke, about, Some(data))),
+        _ => Err(NotWhole),
     }
-    if tag == 193 {
-        if flag == 0 {
-            return set(invoke, descriptor, value);
-        }
-        return Parsed::NotWhole;
-    }
-    if tag == 195 {
-        if (flag == 0) & bare {
-            return Parsed::Ok(Request::Action(invoke, descriptor, OptionalData::Absent));
-        }
-        if flag == 1 {
-            return act(invoke, descriptor, value);
-        }
-        return Parsed::NotWhole;
-    }
-    Parsed::NotWhole
 }
 
 // The request that is the whole of the bytes.
@@ -121,13 +99,12 @@ pub fn parse(s: &[u8]) -> Parsed
     ensures examples { Examples }
 {
     if s.len() < 13 {
-        return Parsed::NotWhole;
+        return Err(NotWhole);
     }
     if s[1] != 1 {
-        return Parsed::NotWhole;
+        return Err(NotWhole);
     }
     let about = described::descriptor_in(s);
     let value = value::data_in(s);
-    let invoke = s[2];
-    by_tag(s[0], s[12], s.len() == 13, invoke, about, value)
+    by_tag(s[0], s[12], s.len() == 13, s[2], about, value)
 }

@@ -2,40 +2,38 @@
 ghost use Rattle.std.specs.Prelude.{◌≡◌};
 ghost use Rattle.requests.specs.Requests.{short_data, long_data, data_in};
 
-use crate::{Data, OptionalData};
+use crate::{Data, tags};
 
 // A value of one byte, by its tag.
-fn short_data(tag: u8, value: u8) -> OptionalData
+fn short_data(tag: u8, value: u8) -> Option<Data>
     ensures { result ≡ short_data tag value }
 {
     match tag {
-        3 => OptionalData::Present(Data::Boolean(value)),
-        15 => OptionalData::Present(Data::Integer(value)),
-        22 => OptionalData::Present(Data::Enum(value)),
-        _ => OptionalData::Absent,
+        tags::BOOLEAN => Some(Data::Boolean(value)),
+        tags::INTEGER => Some(Data::Integer(value)),
+        tags::ENUM => Some(Data::Enum(value)),
+        _ => None,
     }
 }
 
 // A value of four bytes, by its tag.
-fn long_data(tag: u8, value: u32) -> OptionalData
+fn long_data(tag: u8, value: u32) -> Option<Data>
     ensures { result ≡ long_data tag value }
 {
     match tag {
-        5 => OptionalData::Present(Data::DoubleLong(value)),
-        6 => OptionalData::Present(Data::DoubleLongUnsigned(value)),
-        _ => OptionalData::Absent,
+        tags::DOUBLE_LONG => Some(Data::DoubleLong(value)),
+        tags::DOUBLE_LONG_UNSIGNED => Some(Data::DoubleLongUnsigned(value)),
+        _ => None,
     }
 }
 
 // The one value that is all of the bytes behind the head, from 13 on.
-pub(crate) fn data_in(s: &[u8]) -> OptionalData
+pub(crate) fn data_in(s: &[u8]) -> Option<Data>
     ensures { result ≡ data_in s.now }
 {
-    if s.len() == 15 {
-        return short_data(s[13], s[14]);
+    match s.len() {
+        15 => short_data(s[13], s[14]),
+        18 => long_data(s[13], codec::u32_at(s, 14)),
+        _ => None,
     }
-    if s.len() == 18 {
-        return long_data(s[13], codec::u32_at(s, 14));
-    }
-    OptionalData::Absent
 }

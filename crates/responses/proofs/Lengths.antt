@@ -1,5 +1,6 @@
 -- The lengths of values and responses, and what stands behind the first four bytes.
 use mathlib.Core.Path.{◌≡◌, ap, ◌∙◌, sym}
+use mathlib.Core.Logic.{◌⊎◌, inl, inr}
 use mathlib.Core.List.{List, ◌++◌}
 use Prim.Native.Nat.{ℕ, ◌+◌, ◌≤◌, ◌<◌, ◌^◌}
 use native.Mathlib.Omega.{arith}
@@ -8,7 +9,7 @@ use lib.Seq.{sets}
 use Rattle.codec.specs.BigEndian.{be}
 use Rattle.codec.proofs.Numbers.{length_be}
 use Rattle.codec.proofs.Stores.{sets_then}
-use Rattle.requests.specs.Requests.{short_format, long_format, data_bytes}
+use Rattle.requests.specs.Requests.{short_format, long_format, tag_of, data_bytes}
 use Rattle.requests.specs.declared.Data.{Data}
 use Rattle.requests.specs.declared.Data.TheVariants.{Boolean, DoubleLong, DoubleLongUnsigned, Integer, Enum}
 use Rattle.responses.specs.declared.Response.{Response}
@@ -21,6 +22,16 @@ short_length t v = sym (simp (length-append, length_be))
 
 pub long_length : (t v : ℕ) → 5 ≡ length (long_format.enc (t, v))
 long_length t v = sym (simp (length-append, length_be))
+
+-- a value of four bytes, and one of one byte, stands behind the tag of its type
+pub long_bytes : (x : Data) (v : ℕ) → (x ≡ DoubleLong v) ⊎ (x ≡ DoubleLongUnsigned v) → data_bytes x ≡ long_format.enc (tag_of x, v)
+long_bytes x v (inl e) = rw e
+long_bytes x v (inr e) = rw e
+
+pub short_bytes : (x : Data) (v : ℕ) → (x ≡ Boolean v) ⊎ ((x ≡ Integer v) ⊎ (x ≡ Enum v)) → data_bytes x ≡ short_format.enc (tag_of x, v)
+short_bytes x v (inl e) = rw e
+short_bytes x v (inr (inl e)) = rw e
+short_bytes x v (inr (inr e)) = rw e
 
 pub front_length : (t i b : ℕ) → length (front t i b) ≡ 4
 front_length t i b = simp (length-append, length_be)

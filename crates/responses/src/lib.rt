@@ -11,12 +11,12 @@ ghost use Rattle.responses.specs.Laws.{Laws};
 use requests::Data;
 
 // The data-access-result of a GET or a SET, the action-result of an ACTION: both have the same numbers.
-#[derive(Clone, Copy)]
+#[derive(Clone, Copy, PartialEq, Eq)]
 pub enum AccessResult {
-    Success,
-    ReadWriteDenied,
-    ObjectUndefined,
-    TypeUnmatched,
+    Success = 0,
+    ReadWriteDenied = 3,
+    ObjectUndefined = 4,
+    TypeUnmatched = 12,
 }
 
 impl AccessResult {
@@ -24,23 +24,13 @@ impl AccessResult {
     pub fn number(self) -> u8
         ensures { result ≡ result_number self }
     {
-        match self {
-            AccessResult::Success => 0,
-            AccessResult::ReadWriteDenied => 3,
-            AccessResult::ObjectUndefined => 4,
-            AccessResult::TypeUnmatched => 12,
-        }
+        self as u8
     }
 
     pub fn is_success(self) -> bool
         ensures { result ≡ is_success self }
     {
-        match self {
-            AccessResult::Success => true,
-            AccessResult::ReadWriteDenied => false,
-            AccessResult::ObjectUndefined => false,
-            AccessResult::TypeUnmatched => false,
-        }
+        self == AccessResult::Success
     }
 }
 
@@ -56,49 +46,20 @@ pub enum Response {
     ActionResult(u8, AccessResult),
 }
 
-// A value of one byte behind its tag.
-fn put_short(out: &mut [u8], at: usize, tag: u8, v: u8)
-    requires { at + 2 ≤ length out.old }
-    ensures { out.new ≡ sets out.old at (short_format.enc (tag, v)) }
-{
-    codec::put_u8(out, at, tag);
-    codec::put_u8(out, at + 1, v);
-}
-
-// A value of four bytes behind its tag.
-fn put_long(out: &mut [u8], at: usize, tag: u8, v: u32)
-    requires { at + 5 ≤ length out.old }
-    ensures { out.new ≡ sets out.old at (long_format.enc (tag, v)) }
-{
-    codec::put_u8(out, at, tag);
-    codec::put_u32(out, at + 1, v);
-}
-
 // A value behind the tag of its type; answers how many bytes these are.
 fn put_data(out: &mut [u8], at: usize, value: Data) -> usize
     requires { at + 5 ≤ length out.old }
     ensures { (result ≤ 5) × ((result ≡ length (data_bytes value)) × (out.new ≡ sets out.old at (data_bytes value))) }
 {
+    codec::put_u8(out, at, value.tag());
     match value {
-        Data::Boolean(v) => {
-            put_short(out, at, 3, v);
+        Data::Boolean(v) | Data::Integer(v) | Data::Enum(v) => {
+            codec::put_u8(out, at + 1, v);
             2
         }
-        Data::DoubleLong(v) => {
-            put_long(out, at, 5, v);
+        Data::DoubleLong(v) | Data::DoubleLongUnsigned(v) => {
+            codec::put_u32(out, at + 1, v);
             5
-        }
-        Data::DoubleLongUnsigned(v) => {
-            put_long(out, at, 6, v);
-            5
-        }
-        Data::Integer(v) => {
-            put_short(out, at, 15, v);
-            2
-        }
-        Data::Enum(v) => {
-            put_short(out, at, 22, v);
-            2
         }
     }
 }

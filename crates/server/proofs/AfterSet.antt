@@ -9,6 +9,7 @@ use lib.Dec.{leb, ltb}
 use lib.IntN.{ℤ, pos, negsuc}
 use lib.Signed.{le_z}
 use borrow.Author.Tests.{le-leb}
+use Rattle.std.specs.Prelude.{Some}
 use Rattle.base.specs.Bits.{inverse}
 use Rattle.base.specs.Tests.{every, each_from}
 use Rattle.base.proofs.Bools.{and_left, and_right}
@@ -28,7 +29,6 @@ use Rattle.calls.specs.Laws.{bits_of}
 use Rattle.requests.specs.declared.Data.{Data}
 use Rattle.requests.specs.declared.Data.TheVariants.{DoubleLong, DoubleLongUnsigned, Enum}
 use Rattle.requests.specs.declared.Descriptor.{Descriptor}
-use Rattle.requests.specs.declared.OptionalData.TheVariants.{Present}
 use Rattle.responses.specs.declared.AccessResult.{AccessResult}
 use Rattle.responses.specs.declared.AccessResult.TheVariants.{Success, ReadWriteDenied}
 use Rattle.responses.specs.declared.Response.TheVariants.{GetData}
@@ -83,7 +83,7 @@ module _ (rows : List EventRow) (m : Meter) (c : Call) where
       go (making k) = refl
 
 -- a SET that names a call, and a GET
-gives_back : (rows : List EventRow) (m : Meter) (c : Call) (d : Descriptor) (x y : Data) → access_on rows m false d (Present x) ≡ called_on rows m c
+gives_back : (rows : List EventRow) (m : Meter) (c : Call) (d : Descriptor) (x y : Data) → access_on rows m false d (Some x) ≡ called_on rows m c
     → ((k : Change) → result_of rows (scalars_of m) c ≡ making k → (i : ℕ) → got rows (after rows m c k) i d ≡ GetData i y) → GivesBack rows m d x y
 gives_back rows m c d x y sets gets e i =
     let (k, (makes, leaves)) = made rows m c (sym (ap (λ (a : Accessed). a.result) sets) ∙ e) in
@@ -186,7 +186,7 @@ module _ (rows : List EventRow) (m : Meter) where
   -- ---- when a SET succeeds
 
   module _ (q : sound_meter rows m ≡ true) where
-    by_call : (c : Call) (d : Descriptor) (x : Data) → access_on rows m false d (Present x) ≡ called_on rows m c
+    by_call : (c : Call) (d : Descriptor) (x : Data) → access_on rows m false d (Some x) ≡ called_on rows m c
         → set_result rows m d x ≡ result_by rows m c (result_of rows (scalars_of m) c)
     by_call c d x sets = ap (λ (a : Accessed). a.result) sets ∙ result_of_sound rows m c q
 

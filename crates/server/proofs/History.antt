@@ -6,16 +6,15 @@ use mathlib.Core.List.{List, [], ◌∷◌, ◌++◌, nil≢cons, tail-eq_of_con
 use Prim.Native.Nat.{ℕ, ◌≤◌}
 use lib.Dec.{ltb}
 use lib.ListN.{length, take, replicate}
+use Rattle.std.specs.Prelude.{Option, Some, None, Ok, Err}
 use Rattle.base.specs.Tests.{every}
 use Rattle.codec.specs.Lawful.{Bytes}
 use Rattle.events.specs.Table.{EventRow, lawful}
 use Rattle.calls.specs.declared.Call.{Call}
-use Rattle.calls.specs.declared.Letter.TheVariants.{None}
+use Rattle.calls.specs.declared.Letter.TheVariants.{None as NoLetter}
 use Rattle.calls.specs.Calls.{AllInRange}
 use Rattle.requests.specs.declared.Request.{Request}
-use Rattle.requests.specs.declared.Parsed.{Parsed}
-use Rattle.requests.specs.declared.Parsed.TheVariants.{Ok, NotWhole}
-use Rattle.requests.specs.Requests.{request_in}
+use Rattle.requests.specs.Requests.{Parsed, request_in}
 use Rattle.requests.proofs.Laws.{laws as request_laws}
 use Rattle.history.specs.OnePhase.{Fresh, Account, account, letter}
 use Rattle.meter.specs.declared.Meter.{Meter}
@@ -31,8 +30,6 @@ use Rattle.page.specs.Layout.{size, write_answer, written}
 use Rattle.page.specs.AccountPage.{page_length}
 use Rattle.page.specs.Demand3.{Trace, last_record, trace_account}
 use Rattle.page.proofs.Traces.{demand_3}
-use Rattle.server.specs.declared.Named.{Named as Named'}
-use Rattle.server.specs.declared.Named.TheVariants.{One, NotWritable}
 use Rattle.server.specs.Naming.{named_in}
 use Rattle.server.specs.Service.{refused_with, parsed_on, service}
 use Rattle.server.specs.Laws.{named_of}
@@ -83,7 +80,7 @@ module _ (rows : List EventRow) (table : every lawful rows ≡ true) (f : Fresh)
     parsed : (s : List ℕ) → Bytes s → (p : Parsed) → request_in s ≡ p
         → AllInRange (parsed_calls a p) × (parsed_after p ≡ record_after rows m (parsed_calls a p))
     unfolding record_after
-    parsed s b NotWhole e = (tt, refl)
+    parsed s b (Err x) e = (tt, refl)
     parsed s b (Ok r) e =
         rw (← same_named r) (sound_range rows m r (request_laws.read_in_range s r b e) sound, request_record rows table m r)
 
@@ -172,7 +169,7 @@ not_carried rows m s l = go (ltb (length l) 32) (sound_meter rows m) (request_in
         → (cond b (refused_with m 21) (cond q (parsed_on rows m p) (refused_with m 12))).meter ≡ m
     go true q p e = refl
     go false false p e = refl
-    go false true NotWhole e = refl
+    go false true (Err x) e = refl
     go false true (Ok r) e = (unchanged rows m r e).0
 
 -- two traces of one table, with equal last records, have one account
@@ -214,7 +211,7 @@ uncounted t s l b e =
 module _ (rows : List EventRow) (table : every lawful rows ≡ true) (f : Fresh) (t : Settings f) (before : List Call) (range : AllInRange before) where
   letter_parsed : (c : Call) (p : Parsed) → parsed_calls (account rows f before) p ≡ c ∷ []
       → (parsed_on rows (reached rows table f t before) p).letter ≡ (applied rows (reached rows table f t before) c).letter
-  letter_parsed c NotWhole e = absurd (let z : ◌≡◌ {A = ℕ} 0 1 = cc in omega arith)
+  letter_parsed c (Err x) e = absurd (let z : ◌≡◌ {A = ℕ} 0 1 = cc in omega arith)
   letter_parsed c (Ok r) e =
       letter_named rows table (reached rows table f t before) r c (ap named_calls (same_named rows table f t before range r) ∙ e)
 
@@ -232,12 +229,12 @@ module _ (rows : List EventRow) (table : every lawful rows ≡ true) (f : Fresh)
       go false true h e = letter_parsed c (request_in s) e
       go false false h e = absurd (false≢true h)
 
-  unlettered_parsed : (p : Parsed) → parsed_calls (account rows f before) p ≡ [] → (parsed_on rows (reached rows table f t before) p).letter ≡ None
-  unlettered_parsed NotWhole e = refl
+  unlettered_parsed : (p : Parsed) → parsed_calls (account rows f before) p ≡ [] → (parsed_on rows (reached rows table f t before) p).letter ≡ NoLetter
+  unlettered_parsed (Err x) e = refl
   unlettered_parsed (Ok r) e =
       letter_unnamed rows table (reached rows table f t before) r (ap named_calls (same_named rows table f t before range r) ∙ e)
 
-  unlettered_served : (s l : List ℕ) → input_calls (account rows f before) (request s l) ≡ [] → (service rows (reached rows table f t before) s l).letter ≡ None
+  unlettered_served : (s l : List ℕ) → input_calls (account rows f before) (request s l) ≡ [] → (service rows (reached rows table f t before) s l).letter ≡ NoLetter
   unfolding service
   unlettered_served s l e = go (ltb (length l) 32) (sound_meter rows m₀) e
     where
@@ -245,7 +242,7 @@ module _ (rows : List EventRow) (table : every lawful rows ≡ true) (f : Fresh)
       m₀ = reached rows table f t before
 
       go : (b q : Bool) → cond b [] (parsed_calls (account rows f before) (request_in s)) ≡ []
-          → (cond b (refused_with m₀ 21) (cond q (parsed_on rows m₀ (request_in s)) (refused_with m₀ 12))).letter ≡ None
+          → (cond b (refused_with m₀ 21) (cond q (parsed_on rows m₀ (request_in s)) (refused_with m₀ 12))).letter ≡ NoLetter
       go true q e = refl
       go false true e = unlettered_parsed (request_in s) e
       go false false e = refl
@@ -254,16 +251,16 @@ module _ (rows : List EventRow) (table : every lawful rows ≡ true) (f : Fresh)
 pub at_most_one : (a : Account) (s l : List ℕ) (c d : Call) (cs : List Call) → input_calls a (request s l) ≡ c ∷ (d ∷ cs) → ⊥
 at_most_one a s l c d cs = go (ltb (length l) 32) (request_in s)
   where
-    named_one : (n : Named') → named_calls n ≡ c ∷ (d ∷ cs) → ⊥
-    named_one (One x) e = nil≢cons (tail-eq_of_cons-eq e)
-    named_one NotWritable e = nil≢cons e
+    named_one : (n : Option Call) → named_calls n ≡ c ∷ (d ∷ cs) → ⊥
+    named_one (Some x) e = nil≢cons (tail-eq_of_cons-eq e)
+    named_one None e = nil≢cons e
 
     go : (b : Bool) (p : Parsed) → cond b [] (parsed_calls a p) ≡ c ∷ (d ∷ cs) → ⊥
     go true p e = nil≢cons e
-    go false NotWhole e = nil≢cons e
+    go false (Err x) e = nil≢cons e
     go false (Ok r) e = named_one (named_in a.threshold a.over a.under r) e
 
-unlettered : (t : InputTrace) (s l : List ℕ) → Bytes s → input_calls (input_account t) (request s l) ≡ [] → (service t.rows (last_of t) s l).letter ≡ None
+unlettered : (t : InputTrace) (s l : List ℕ) → Bytes s → input_calls (input_account t) (request s l) ≡ [] → (service t.rows (last_of t) s l).letter ≡ NoLetter
 unlettered t s l b e =
     let cs = trace_calls t in
     let last : record_after t.rows (record_of (fresh_state t.settings)) cs ≡ last_of t =

@@ -2,8 +2,8 @@
 use mathlib.Core.Path.{◌≡◌, refl, sym}
 use mathlib.Core.Bool.{Bool, true, false, ◌&&◌, ◌||◌, false≢true}
 use mathlib.Core.List.{List, [], ◌∷◌}
-use mathlib.Core.Option.{none}
 use lib.Dec.{eqb}
+use Rattle.std.specs.Prelude.{None}
 use Rattle.base.proofs.Bools.{neither}
 use Rattle.codec.specs.{BigEndian.be, Format.num_at}
 use Rattle.events.specs.Table.{EventRow}
@@ -66,7 +66,7 @@ two_names true false y b e = (refl, e)
 three_names : (a x y z b : Bool) → a && ((x || (y || z)) && b) ≡ false → (a && (x && b) ≡ false) × ((a && (y && b) ≡ false) × (a && (z && b) ≡ false))
 three_names a x y z b e = let (h, t) = two_names a x (y || z) b e in (h, two_names a y z b t)
 
-no_others : (method : Bool) (d : Descriptor) → listed method d ≡ false → item_at items method d ≡ none
+no_others : (method : Bool) (d : Descriptor) → listed method d ≡ false → item_at items method d ≡ None
 unfolding item_at items
 no_others true d e =
     let (h1, h2) = two (eqb 70 d.class) (eqb (logical_name 0 0 96 3 10 255) d.name) (eqb 1 d.id) (eqb 2 d.id) e in

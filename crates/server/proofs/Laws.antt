@@ -1,16 +1,16 @@
 -- The laws of requests, whatever the record.
 use mathlib.Core.Path.{◌≡◌, refl, ap, ◌∙◌, sym}
-use mathlib.Core.Bool.{Bool, true, false, ◌&&◌, cond, beq}
+use mathlib.Core.Bool.{Bool, true, false, cond, beq}
 use mathlib.Core.List.{List, [], ◌∷◌, ◌++◌}
-use mathlib.Core.Option.{Option, none, some}
 use Prim.Native.Nat.{ℕ, ◌+◌, ◌≤◌}
 use native.Mathlib.Omega.{arith}
 use lib.Dec.{eqb, ltb}
 use lib.ListN.{length, get_or, take, drop, length-append, length-drop}
 use lib.Seq.{take-append_seam, drop-append_seam}
-use borrow.Author.Tests.{eq-eqb, ne_eqb, eqb-true, ltb-true, ltb-false, le-ltb}
+use borrow.Author.Tests.{eq-eqb, ne_eqb, eqb-true, ltb-false, le-ltb}
+use Rattle.std.specs.Prelude.{ok_or, Option, Some, None, Ok, Err}
 use Rattle.base.specs.Tests.{among, every}
-use Rattle.base.proofs.Bools.{and_left, and_right, beq_eq}
+use Rattle.base.proofs.Bools.{and_left, beq_eq}
 use Rattle.base.proofs.Every.{every_first, every_rest}
 use Rattle.codec.specs.BigEndian.{be}
 use Rattle.codec.specs.Lawful.{Bytes}
@@ -18,18 +18,14 @@ use Rattle.events.specs.Table.{EventRow}
 use Rattle.calls.specs.declared.Call.{Call}
 use Rattle.calls.specs.declared.Answer.{Answer}
 use Rattle.calls.specs.declared.Answer.TheVariants.{Accepted, Refused}
-use Rattle.calls.specs.declared.Letter.TheVariants.{None}
+use Rattle.calls.specs.declared.Letter.TheVariants.{None as NoLetter}
 use Rattle.calls.specs.Calls.{answer_number}
 use Rattle.requests.specs.declared.Data.{Data}
 use Rattle.requests.specs.declared.Data.TheVariants as data_of
 use Rattle.requests.specs.declared.Descriptor.{Descriptor}
-use Rattle.requests.specs.declared.OptionalData.{OptionalData}
-use Rattle.requests.specs.declared.OptionalData.TheVariants.{Absent, Present}
 use Rattle.requests.specs.declared.Request.{Request}
 use Rattle.requests.specs.declared.Request.TheVariants.{Get, Set, Action}
-use Rattle.requests.specs.declared.Parsed.{Parsed}
-use Rattle.requests.specs.declared.Parsed.TheVariants.{Ok, NotWhole}
-use Rattle.requests.specs.Requests.{request_bytes, request_in, RequestInRange}
+use Rattle.requests.specs.Requests.{tag_of, Parsed, request_bytes, request_in, RequestInRange}
 use Rattle.requests.proofs.Laws.{laws as request_laws}
 use Rattle.responses.specs.declared.AccessResult.{AccessResult}
 use Rattle.responses.specs.declared.AccessResult.TheVariants.{Success, ReadWriteDenied, ObjectUndefined, TypeUnmatched}
@@ -46,13 +42,11 @@ use Rattle.meter.specs.State.{scalars_of}
 use Rattle.server.specs.declared.Value.{Value}
 use Rattle.server.specs.declared.Value.TheVariants as value
 use Rattle.server.specs.declared.Item.{Item}
-use Rattle.server.specs.declared.Named.{Named}
-use Rattle.server.specs.declared.Named.TheVariants.{One, NotWritable}
 use Rattle.server.specs.declared.Accessed.{Accessed}
 use Rattle.server.specs.Objects.{items, is_at, item_at}
-use Rattle.server.specs.Reading.{value_of}
-use Rattle.server.specs.Naming.{tag_of, number_of, named_by, named_at}
-use Rattle.server.specs.Access.{unchanged_with, accessed_by, called_on, named_on, access_at, access_on, get_response, get_at, get_on, responded_with, responded_on}
+use Rattle.server.specs.Reading.{value_of, read_of}
+use Rattle.server.specs.Naming.{number_of, named_from, named_at}
+use Rattle.server.specs.Access.{unchanged_with, accessed_by, called_on, call_at, access_by, access_on, get_response, get_at, get_on, responded_with, responded_on}
 use Rattle.server.specs.Service.{Service, refused_with, answering, parsed_on, service, served_by, filled_by}
 use Rattle.server.specs.Laws.{is_whole, served_on, buffer_after, named_of, CarriedOut, Matches, named_for, LawsOf}
 use Rattle.server.proofs.Services.{response_fits}
@@ -79,7 +73,7 @@ module _ (rows : List EventRow) (m : Meter) (s l : List ℕ) where
           ≡ cond a 21 (cond b (cond (is_whole p) 0 20) 12)
       go true b p = refl
       go false true (Ok r) = refl
-      go false true NotWhole = refl
+      go false true (Err x) = refl
       go false false p = refl
 
   front : take (served_on rows m s l).length (buffer_after rows m s l) ≡ (service rows m s l).bytes
@@ -97,10 +91,10 @@ module _ (rows : List EventRow) (m : Meter) (s l : List ℕ) where
           rw (length-append (response_bytes y) (drop (length (response_bytes y)) l), length-drop (length (response_bytes y)) l) (omega arith)
 
   refused_same : (n : ℕ) → (served_on rows m s l).answer ≡ Refused n
-      → (served_on rows m s l ≡ record { meter = m; answer = Refused n; length = 0; letter = None; carried = false }) × (buffer_after rows m s l ≡ l)
+      → (served_on rows m s l ≡ record { meter = m; answer = Refused n; length = 0; letter = NoLetter; carried = false }) × (buffer_after rows m s l ≡ l)
   refused_same n =
-      cases (λ x. x.answer ≡ Refused n → (served_by x ≡ record { meter = m; answer = Refused n; length = 0; letter = None; carried = false }) × (filled_by x l ≡ l))
-      (λ k e. (ap (λ (a : Answer). record { meter = m; answer = a; length = 0; letter = None; carried = false }) e, refl))
+      cases (λ x. x.answer ≡ Refused n → (served_by x ≡ record { meter = m; answer = Refused n; length = 0; letter = NoLetter; carried = false }) × (filled_by x l ≡ l))
+      (λ k e. (ap (λ (a : Answer). record { meter = m; answer = a; length = 0; letter = NoLetter; carried = false }) e, refl))
       (λ r e h q. absurd (let z : ◌≡◌ {A = ℕ} 0 1 = cc in omega arith))
 
 whole : (rows : List EventRow) (m : Meter) (r : Request) (l : List ℕ) → RequestInRange r → sound_meter rows m ≡ true → 32 ≤ length l
@@ -129,24 +123,24 @@ module _ (rows : List EventRow) (m : Meter) (s l : List ℕ) where
 -- ---- the first bytes
 
 module _ (rows : List EventRow) (m : Meter) (l : List ℕ) where
-  got_echo : (i : ℕ) (d : Descriptor) (x : OptionalData) → take 3 (response_bytes (get_response i x) ++ l)
+  got_echo : (i : ℕ) (d : Descriptor) (x : Option Data) → take 3 (response_bytes (get_response i x) ++ l)
       ≡ (get_or (request_bytes (Get i d)) 0 0 + 4) ∷ 1 ∷ get_or (request_bytes (Get i d)) 2 0 ∷ []
   unfolding be response_bytes request_bytes
-  got_echo i d (Present x) = refl
-  got_echo i d Absent = refl
+  got_echo i d (Some x) = refl
+  got_echo i d None = refl
 
   get_echo : (i : ℕ) (d : Descriptor) (o : Option Item) → take 3 (response_bytes (get_at (scalars_of m) i o) ++ l)
       ≡ (get_or (request_bytes (Get i d)) 0 0 + 4) ∷ 1 ∷ get_or (request_bytes (Get i d)) 2 0 ∷ []
-  get_echo i d none = got_echo i d Absent
-  get_echo i d (some a) = got_echo i d (value_of (scalars_of m) a.reads)
+  get_echo i d None = got_echo i d None
+  get_echo i d (Some a) = got_echo i d (read_of (scalars_of m) a.reads)
 
   echo : (r : Request) → take 3 (response_bytes (responded_on rows m r).response ++ l)
       ≡ (get_or (request_bytes r) 0 0 + 4) ∷ 1 ∷ get_or (request_bytes r) 2 0 ∷ []
   unfolding be response_bytes request_bytes responded_on get_on
   echo (Get i d) = get_echo i d (item_at items false d)
   echo (Set i d x) = refl
-  echo (Action i d Absent) = refl
-  echo (Action i d (Present x)) = refl
+  echo (Action i d None) = refl
+  echo (Action i d (Some x)) = refl
 
 module _ (rows : List EventRow) (m : Meter) (s l : List ℕ) where
   first_bytes : Bytes s → (served_on rows m s l).answer ≡ Accepted → take 3 (buffer_after rows m s l) ≡ (get_or s 0 0 + 4) ∷ 1 ∷ get_or s 2 0 ∷ []
@@ -159,91 +153,98 @@ module _ (rows : List EventRow) (m : Meter) (s l : List ℕ) where
 -- ---- what a SET or an ACTION comes to
 
 -- it leaves the record, or carries the named call out
-record Fate (rows : List EventRow) (m : Meter) (n : Named) (a : Accessed) : Type 0 where
-  pub same : is_success a.result ≡ false → (a.meter ≡ m) × (a.letter ≡ None)
+record Fate (rows : List EventRow) (m : Meter) (n : Option Call) (a : Accessed) : Type 0 where
+  pub same : is_success a.result ≡ false → (a.meter ≡ m) × (a.letter ≡ NoLetter)
   pub carried : is_success a.result ≡ true → CarriedOut rows m n (responded_with a (SetResult 0 a.result))
 
 module _ (rows : List EventRow) (m : Meter) where
-  left : (n : Named) (r : AccessResult) → is_success r ≡ false → Fate rows m n (unchanged_with m r)
+  left : (n : Option Call) (r : AccessResult) → is_success r ≡ false → Fate rows m n (unchanged_with m r)
   left n r e = record { same = λ h. (refl, refl); carried = λ h. absurd (let z : ◌≡◌ {A = ℕ} 0 1 = cc in omega arith) }
 
-  called : (c : Call) → Fate rows m (One c) (called_on rows m c)
+  called : (c : Call) → Fate rows m (Some c) (called_on rows m c)
   unfolding called_on
   called c = go (applied rows m c).answer refl
     where
-      go : (a : Answer) → (applied rows m c).answer ≡ a → Fate rows m (One c) (accessed_by m (applied rows m c).meter (applied rows m c).letter a)
+      go : (a : Answer) → (applied rows m c).answer ≡ a → Fate rows m (Some c) (accessed_by m (applied rows m c).meter (applied rows m c).letter a)
       go Accepted e = record { same = λ h. absurd (let z : ◌≡◌ {A = ℕ} 0 1 = cc in omega arith); carried = λ h. (e, (refl, refl)) }
-      go (Refused n) e = left (One c) ReadWriteDenied refl
+      go (Refused n) e = left (Some c) ReadWriteDenied refl
 
-  named : (n : Named) → Fate rows m n (named_on rows m n)
-  named (One c) = called c
-  named NotWritable = left NotWritable ReadWriteDenied refl
+  -- a call, where the row names one: 'read-write-denied if not writable'
+  abbrev named_on : Option Call → Accessed
+  named_on n = access_by rows m (ok_or n ReadWriteDenied)
 
-  abbrev at : OptionalData → Option Item → Named
+  named : (n : Option Call) → Fate rows m n (named_on n)
+  named (Some c) = called c
+  named None = left None ReadWriteDenied refl
+
+  abbrev at : Option Data → Option Item → Option Call
   at x o = named_at m.limiter.threshold m.limiter.over m.limiter.under x o
 
-  accessed : (x : OptionalData) (o : Option Item) → Fate rows m (at x o) (access_at rows m x o)
-  accessed x none = left NotWritable ObjectUndefined refl
-  accessed Absent (some a) = left NotWritable TypeUnmatched refl
-  accessed (Present x) (some a) = go (eqb a.tag (tag_of x))
+  abbrev access_at : Option Data → Option Item → Accessed
+  access_at x o = access_by rows m (call_at m.limiter x o)
+
+  accessed : (x : Option Data) (o : Option Item) → Fate rows m (at x o) (access_at x o)
+  accessed x None = left None ObjectUndefined refl
+  accessed None (Some a) = left None TypeUnmatched refl
+  accessed (Some x) (Some a) = go (eqb a.tag (tag_of x))
     where
-      n : Named
-      n = named_by m.limiter.threshold m.limiter.over m.limiter.under a.names (number_of x)
+      n : Option Call
+      n = named_from m.limiter.threshold m.limiter.over m.limiter.under a.names (number_of x)
 
-      go : (t : Bool) → Fate rows m (cond t n NotWritable) (cond t (named_on rows m n) (unchanged_with m TypeUnmatched))
+      go : (t : Bool) → Fate rows m (cond t n None) (access_by rows m (cond t (ok_or n ReadWriteDenied) (Err TypeUnmatched)))
       go true = named n
-      go false = left NotWritable TypeUnmatched refl
+      go false = left None TypeUnmatched refl
 
-  pub unchanged : (r : Request) → (responded_on rows m r).carried ≡ false → ((responded_on rows m r).meter ≡ m) × ((responded_on rows m r).letter ≡ None)
+  pub unchanged : (r : Request) → (responded_on rows m r).carried ≡ false → ((responded_on rows m r).meter ≡ m) × ((responded_on rows m r).letter ≡ NoLetter)
   unfolding responded_on access_on
   unchanged (Get i d) h = (refl, refl)
-  unchanged (Set i d x) h = (accessed (Present x) (item_at items false d)).same h
+  unchanged (Set i d x) h = (accessed (Some x) (item_at items false d)).same h
   unchanged (Action i d x) h = (accessed x (item_at items true d)).same h
 
-  carried_named : (n : Named) (a : Accessed) (y z : Response) → CarriedOut rows m n (responded_with a y) → CarriedOut rows m n (responded_with a z)
-  carried_named (One c) a y z h = h
-  carried_named NotWritable a y z h = h
+  carried_named : (n : Option Call) (a : Accessed) (y z : Response) → CarriedOut rows m n (responded_with a y) → CarriedOut rows m n (responded_with a z)
+  carried_named (Some c) a y z h = h
+  carried_named None a y z h = h
 
   pub carried_out_lem : (r : Request) → (responded_on rows m r).carried ≡ true → CarriedOut rows m (named_of m r) (responded_on rows m r)
   unfolding responded_on access_on
   carried_out_lem (Get i d) h = absurd (let z : ◌≡◌ {A = ℕ} 0 1 = cc in omega arith)
   carried_out_lem (Set i d x) h =
-      let a = access_at rows m (Present x) (item_at items false d) in
-      carried_named (at (Present x) (item_at items false d)) a _ (SetResult i a.result) ((accessed (Present x) (item_at items false d)).carried h)
+      let a = access_at (Some x) (item_at items false d) in
+      carried_named (at (Some x) (item_at items false d)) a _ (SetResult i a.result) ((accessed (Some x) (item_at items false d)).carried h)
   carried_out_lem (Action i d x) h =
-      let a = access_at rows m x (item_at items true d) in
+      let a = access_at x (item_at items true d) in
       carried_named (at x (item_at items true d)) a _ (ActionResult i a.result) ((accessed x (item_at items true d)).carried h)
 
   -- ---- its result
 
   module _ (method : Bool) (d : Descriptor) where
-    undefined : (x : OptionalData) → item_at items method d ≡ none → (access_on rows m method d x).result ≡ ObjectUndefined
+    undefined : (x : Option Data) → item_at items method d ≡ None → (access_on rows m method d x).result ≡ ObjectUndefined
     unfolding access_on
     undefined x e = rw e
 
-    module _ (a : Item) (row : item_at items method d ≡ some a) where
-      unmatched : (x : OptionalData) → (Matches a x → ⊥) → (access_on rows m method d x).result ≡ TypeUnmatched
+    module _ (a : Item) (row : item_at items method d ≡ Some a) where
+      unmatched : (x : Option Data) → (Matches a x → ⊥) → (access_on rows m method d x).result ≡ TypeUnmatched
       unfolding access_on
-      unmatched Absent h = rw row
-      unmatched (Present x) h = rw (row, ne_eqb a.tag (tag_of x) h)
+      unmatched None h = rw row
+      unmatched (Some x) h = rw (row, ne_eqb a.tag (tag_of x) h)
 
-      matched : (x : OptionalData) → Matches a x → access_on rows m method d x ≡ named_on rows m (named_for m a x)
+      matched : (x : Option Data) → Matches a x → access_on rows m method d x ≡ named_on (named_for m a x)
       unfolding access_on
-      matched Absent h = absurd h
-      matched (Present x) h = rw (row, eq-eqb a.tag (tag_of x) h)
+      matched None h = absurd h
+      matched (Some x) h = rw (row, eq-eqb a.tag (tag_of x) h)
 
-      result_named : (x : OptionalData) (n : Named) → Matches a x → named_for m a x ≡ n → (access_on rows m method d x).result ≡ (named_on rows m n).result
-      result_named x n h e = ap (λ (y : Accessed). y.result) (matched x h) ∙ ap (λ (k : Named). (named_on rows m k).result) e
+      result_named : (x : Option Data) (n : Option Call) → Matches a x → named_for m a x ≡ n → (access_on rows m method d x).result ≡ (named_on n).result
+      result_named x n h e = ap (λ (y : Accessed). y.result) (matched x h) ∙ ap (λ (k : Option Call). (named_on k).result) e
 
-      refused : (x : OptionalData) → Matches a x → (c : Call) (n : ℕ) → named_for m a x ≡ One c → (applied rows m c).answer ≡ Refused n
+      refused : (x : Option Data) → Matches a x → (c : Call) (n : ℕ) → named_for m a x ≡ Some c → (applied rows m c).answer ≡ Refused n
           → (access_on rows m method d x).result ≡ ReadWriteDenied
       unfolding called_on
-      refused x h c n e q = result_named x (One c) h e ∙ rw q
+      refused x h c n e q = result_named x (Some c) h e ∙ rw q
 
-      accepted : (x : OptionalData) → Matches a x → (c : Call) → named_for m a x ≡ One c → (applied rows m c).answer ≡ Accepted
+      accepted : (x : Option Data) → Matches a x → (c : Call) → named_for m a x ≡ Some c → (applied rows m c).answer ≡ Accepted
           → (access_on rows m method d x).result ≡ Success
       unfolding called_on
-      accepted x h c e q = result_named x (One c) h e ∙ rw q
+      accepted x h c e q = result_named x (Some c) h e ∙ rw q
 
 -- ---- the rule of the rows, by one test of the table
 
@@ -258,55 +259,59 @@ tag_read value.UnderDuration = 6
 tag_read value.Errors = 6
 tag_read value.Alarms = 6
 tag_read value.AlarmFilter = 6
-tag_read value.Nothing = 0
 
 -- an attribute's tag is that of its value; a method's is another
+abbrev reads_tagged : ℕ → Option Value → Bool
+reads_tagged t (Some v) = eqb t (tag_read v)
+reads_tagged t None = false
+
 abbrev is_typed : Item → Bool
-is_typed a = cond a.method true (eqb a.tag (tag_read a.reads) && ltb 0 a.tag)
+is_typed a = cond a.method true (reads_tagged a.tag a.reads)
 
 all_typed : every is_typed items ≡ true
 unfolding items every
 all_typed = refl
 
-found_passes : (f : Item → Bool) (rows : List Item) (m : Bool) (d : Descriptor) (a : Item) → every f rows ≡ true → item_at rows m d ≡ some a
+found_passes : (f : Item → Bool) (rows : List Item) (m : Bool) (d : Descriptor) (a : Item) → every f rows ≡ true → item_at rows m d ≡ Some a
     → (f a ≡ true) × (is_at a m d ≡ true)
 unfolding item_at every
 found_passes f [] m d a h e = absurd (let z : ◌≡◌ {A = ℕ} 0 1 = cc in omega arith)
 found_passes f (b ∷ rows) m d a h e = go (is_at b m d) refl e (found_passes f rows m d a (every_rest f b rows h))
   where
-    go : (t : Bool) → is_at b m d ≡ t → cond t (some b) (item_at rows m d) ≡ some a → (item_at rows m d ≡ some a → (f a ≡ true) × (is_at a m d ≡ true))
+    go : (t : Bool) → is_at b m d ≡ t → cond t (Some b) (item_at rows m d) ≡ Some a → (item_at rows m d ≡ Some a → (f a ≡ true) × (is_at a m d ≡ true))
         → (f a ≡ true) × (is_at a m d ≡ true)
     go true p g later = let z : b ≡ a = cc in rw (← z) (every_first f b rows h, p)
     go false p g later = later g
 
-valued : (s : Scalars) (v : Value) → (tag_read v ≡ 0 → ⊥) → (x : Data) × ((value_of s v ≡ Present x) × (tag_of x ≡ tag_read v))
-valued s value.OutputState h = (_, (refl, refl))
-valued s value.ControlState h = (_, (refl, refl))
-valued s value.ControlMode h = (_, (refl, refl))
-valued s value.Threshold h = (_, (refl, refl))
-valued s value.OverDuration h = (_, (refl, refl))
-valued s value.UnderDuration h = (_, (refl, refl))
-valued s value.Errors h = (_, (refl, refl))
-valued s value.Alarms h = (_, (refl, refl))
-valued s value.AlarmFilter h = (_, (refl, refl))
-valued s value.Nothing h = absurd (h refl)
+valued : (s : Scalars) (v : Value) → tag_of (value_of s v) ≡ tag_read v
+valued s value.OutputState = refl
+valued s value.ControlState = refl
+valued s value.ControlMode = refl
+valued s value.Threshold = refl
+valued s value.OverDuration = refl
+valued s value.UnderDuration = refl
+valued s value.Errors = refl
+valued s value.Alarms = refl
+valued s value.AlarmFilter = refl
+
+read_typed : (s : Scalars) (t : ℕ) (r : Option Value) → reads_tagged t r ≡ true → (x : Data) × ((read_of s r ≡ Some x) × (tag_of x ≡ t))
+read_typed s t (Some v) h = (value_of s v, (refl, valued s v ∙ sym (eqb-true t (tag_read v) h)))
+read_typed s t None h = absurd (let z : ◌≡◌ {A = ℕ} 0 1 = cc in omega arith)
 
 module _ (rows : List EventRow) (m : Meter) (i : ℕ) (d : Descriptor) where
-  get_undefined : item_at items false d ≡ none → (responded_on rows m (Get i d)).response ≡ GetResult i ObjectUndefined
+  get_undefined : item_at items false d ≡ None → (responded_on rows m (Get i d)).response ≡ GetResult i ObjectUndefined
   unfolding responded_on get_on
   get_undefined e = rw e
 
-  get_value : (a : Item) → item_at items false d ≡ some a
-      → (x : Data) × ((value_of (scalars_of m) a.reads ≡ Present x) × ((tag_of x ≡ a.tag) × ((responded_on rows m (Get i d)).response ≡ GetData i x)))
+  get_value : (a : Item) → item_at items false d ≡ Some a
+      → (x : Data) × ((read_of (scalars_of m) a.reads ≡ Some x) × ((tag_of x ≡ a.tag) × ((responded_on rows m (Get i d)).response ≡ GetData i x)))
   unfolding responded_on get_on
   get_value a e =
       let (passes, at) = found_passes is_typed items false d a all_typed e in
       let attribute : a.method ≡ false = beq_eq a.method false (and_left (beq a.method false) _ (and_left _ _ at)) in
-      let typed : eqb a.tag (tag_read a.reads) && ltb 0 a.tag ≡ true = rw attribute at passes in
-      let tag = eqb-true a.tag (tag_read a.reads) (and_left _ _ typed) in
-      let some_tag = ltb-true 0 a.tag (and_right (eqb a.tag (tag_read a.reads)) (ltb 0 a.tag) typed) in
-      let (x, (reads, is)) = valued (scalars_of m) a.reads (λ z. omega arith) in
-      (x, (reads, (is ∙ sym tag, rw (e, reads))))
+      let typed : reads_tagged a.tag a.reads ≡ true = rw attribute at passes in
+      let (x, (reads, is)) = read_typed (scalars_of m) a.tag a.reads typed in
+      (x, (reads, (is, rw (e, reads))))
 
 pub laws_of : (rows : List EventRow) → LawsOf rows
 unfolding responded_on
@@ -327,7 +332,7 @@ laws_of rows =
       carried_out_lem = carried_out_lem rows;
       undefined = undefined rows;
       unmatched = λ m method d x a row. unmatched rows m method d a row x;
-      not_writable = λ m method d x a row h e. result_named rows m method d a row x NotWritable h e;
+      not_writable = λ m method d x a row h e. result_named rows m method d a row x None h e;
       refused = λ m method d x a row. refused rows m method d a row x;
       accepted = λ m method d x a row. accepted rows m method d a row x;
       get_undefined = get_undefined rows;

@@ -1,6 +1,4 @@
 pub mod Scan
-pub mod Signs
-pub mod Accesses
 pub mod Services
 pub mod Items
 pub mod Laws

@@ -8,11 +8,11 @@ use native.Mathlib.Omega.{arith}
 use lib.ListN.{length, drop}
 use lib.Seq.{sets, sets-eq}
 use borrow.Author.Tests.{lt-ltb, le-ltb}
+use Rattle.std.specs.Prelude.{Ok, Err}
 use Rattle.events.specs.Table.{EventRow}
+use Rattle.requests.specs.declared.NotWhole.{NotWhole}
 use Rattle.requests.specs.declared.Request.{Request}
-use Rattle.requests.specs.declared.Parsed.{Parsed}
-use Rattle.requests.specs.declared.Parsed.TheVariants.{Ok, NotWhole}
-use Rattle.requests.specs.Requests.{request_in}
+use Rattle.requests.specs.Requests.{Parsed, request_in}
 use Rattle.responses.specs.declared.Response.{Response}
 use Rattle.responses.specs.Responses.{response_bytes}
 use Rattle.responses.proofs.Lengths.{size, size_small}
@@ -52,9 +52,9 @@ module _ (rows : List EventRow) (m : Meter) (s l : List ℕ) where
   short h = rw (lt-ltb (length l) 32 h)
 
   module _ (h : 32 ≤ length l) where
-    pub not_whole : request_in s ≡ NotWhole → service_sound rows m s l ≡ refused_with m 20
+    pub not_whole : (x : NotWhole) → request_in s ≡ Err x → service_sound rows m s l ≡ refused_with m 20
     unfolding service_sound
-    not_whole e = rw (le-ltb (length l) 32 h, e)
+    not_whole x e = rw (le-ltb (length l) 32 h, e)
 
     whole : (r : Request) → request_in s ≡ Ok r → service_sound rows m s l ≡ answering (responded_on rows m r)
     unfolding service_sound

@@ -1,12 +1,11 @@
 -- What a GET gives after a SET that succeeded, and what the limiter's settings refuse (document 02, A9).
-use Rattle.std.specs.Prelude.{◌≡◌, true, false, cond, List, ℕ, ◌<◌, leb, ltb}
+use Rattle.std.specs.Prelude.{◌≡◌, true, false, cond, List, ℕ, ◌<◌, leb, ltb, Some}
 use Rattle.std.specs.Int.Bits.{bit_and}
 use Rattle.events.specs.Table.{EventRow}
 use Rattle.base.specs.Tests.{within}
 use Rattle.requests.specs.declared.Data.{Data}
 use Rattle.requests.specs.declared.Data.TheVariants.{DoubleLong, DoubleLongUnsigned, Enum}
 use Rattle.requests.specs.declared.Descriptor.{Descriptor}
-use Rattle.requests.specs.declared.OptionalData.TheVariants.{Present}
 use Rattle.responses.specs.declared.AccessResult.{AccessResult}
 use Rattle.responses.specs.declared.AccessResult.TheVariants.{Success, ReadWriteDenied}
 use Rattle.responses.specs.declared.Response.TheVariants.{GetData}
@@ -17,11 +16,11 @@ use Rattle.server.specs.Items.{disconnect_control, limiter, errors, alarms, alar
 
 -- the result of a SET
 abbrev pub set_result : List EventRow → Meter → Descriptor → Data → AccessResult
-set_result rows m d x = (access_on rows m false d (Present x)).result
+set_result rows m d x = (access_on rows m false d (Some x)).result
 
 -- where a SET to x succeeds, a GET then gives y
 abbrev pub GivesBack : List EventRow → Meter → Descriptor → Data → Data → Type 0
-GivesBack rows m d x y = set_result rows m d x ≡ Success → (i : ℕ) → got rows (access_on rows m false d (Present x)).meter i d ≡ GetData i y
+GivesBack rows m d x y = set_result rows m d x ≡ Success → (i : ℕ) → got rows (access_on rows m false d (Some x)).meter i d ≡ GetData i y
 
 -- of a record
 pub record AfterSetOf (rows : List EventRow) (m : Meter) : Type 0 where

@@ -1,16 +1,14 @@
 -- Demand 3 with requests among the calls (document 02, A9): 'The meter after a success is the meter after the call the frame names; a GET and any other answer
 -- change nothing.' Requests answered with success act in the account as the calls that they name, and no other request counts.
-use Rattle.std.specs.Prelude.{◌≡◌, true, false, cond, List, [], ◌∷◌, ◌++◌, ℕ, ◌≤◌, ltb, length, take}
+use Rattle.std.specs.Prelude.{◌≡◌, true, false, cond, List, [], ◌∷◌, ◌++◌, ℕ, ◌≤◌, ltb, length, take, Option, Some, None, Ok, Err}
 use Rattle.base.specs.Tests.{every}
 use Rattle.codec.specs.Lawful.{Bytes}
 use Rattle.events.specs.Table.{EventRow, lawful}
 use Rattle.calls.specs.declared.Call.{Call}
 use Rattle.calls.specs.declared.Answer.TheVariants.{Accepted}
-use Rattle.calls.specs.declared.Letter.TheVariants.{None}
+use Rattle.calls.specs.declared.Letter.TheVariants.{None as NoLetter}
 use Rattle.calls.specs.Calls.{InRange}
-use Rattle.requests.specs.declared.Parsed.{Parsed}
-use Rattle.requests.specs.declared.Parsed.TheVariants.{Ok, NotWhole}
-use Rattle.requests.specs.Requests.{request_in}
+use Rattle.requests.specs.Requests.{Parsed, request_in}
 use Rattle.history.specs.OnePhase.{Fresh, Account, account, letter}
 use Rattle.meter.specs.declared.Meter.{Meter}
 use Rattle.meter.specs.Machine.{applied}
@@ -18,8 +16,6 @@ use Rattle.meter.specs.Settings.{SettingsInRange}
 use Rattle.meter.specs.Fresh.{fresh_of}
 use Rattle.page.specs.Layout.{write_answer, written}
 use Rattle.page.specs.AccountPage.{page_length, account_page}
-use Rattle.server.specs.declared.Named.{Named}
-use Rattle.server.specs.declared.Named.TheVariants.{One, NotWritable}
 use Rattle.server.specs.Naming.{named_in}
 use Rattle.server.specs.Service.{service}
 
@@ -52,14 +48,14 @@ after_inputs rows m (i ∷ is) = after_inputs rows (after_input rows m i) is
 -- ---- the calls that inputs name, by the account
 
 -- at most one
-abbrev pub named_calls : Named → List Call
-named_calls (One c) = c ∷ []
-named_calls NotWritable = []
+abbrev pub named_calls : Option Call → List Call
+named_calls (Some c) = c ∷ []
+named_calls None = []
 
 -- of bytes that are no whole request, none; 'A SET in class 71 is call 7 with the other two kept': those of the account
 abbrev pub parsed_calls : Account → Parsed → List Call
 parsed_calls a (Ok r) = named_calls (named_in a.threshold a.over a.under r)
-parsed_calls a NotWhole = []
+parsed_calls a (Err x) = []
 
 -- with '21, answer buffer under 32 bytes', none. A call that 01's table refuses is answered with read-write-denied, and counts for nothing in the account
 abbrev pub input_calls : Account → Input → List Call
@@ -124,4 +120,4 @@ pub record RequestsCounted : Type 0 where
   pub lettered : (t : InputTrace) (s l : List ℕ) (c : Call) → Bytes s → input_calls (input_account t) (request s l) ≡ c ∷ []
       → (service t.rows (last_of t) s l).letter ≡ letter t.rows t.settings (trace_calls t) c
   -- .. and one that names no call hands on none
-  pub unlettered : (t : InputTrace) (s l : List ℕ) → Bytes s → input_calls (input_account t) (request s l) ≡ [] → (service t.rows (last_of t) s l).letter ≡ None
+  pub unlettered : (t : InputTrace) (s l : List ℕ) → Bytes s → input_calls (input_account t) (request s l) ≡ [] → (service t.rows (last_of t) s l).letter ≡ NoLetter

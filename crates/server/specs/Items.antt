@@ -1,6 +1,5 @@
 -- Each attribute and method by its descriptor: what a GET reads, and what a SET or an ACTION comes to (document 02, A9).
-use Rattle.std.specs.Prelude.{◌≡◌, Bool, true, false, ◌&&◌, ◌||◌, cond, List, [], ◌∷◌, ℕ, eqb, pos, replicate}
-use Rattle.std.proofs.Math.Option.{none}
+use Rattle.std.specs.Prelude.{◌≡◌, Bool, true, false, ◌&&◌, ◌||◌, cond, List, [], ◌∷◌, ℕ, eqb, pos, replicate, Some, None}
 use Rattle.base.specs.Bits.{inverse}
 use Rattle.events.specs.Table.{EventRow}
 use Rattle.calls.specs.declared.Call.TheVariants as call
@@ -8,7 +7,6 @@ use Rattle.calls.specs.Calls.{signed_of}
 use Rattle.calls.specs.Laws.{bits_of}
 use Rattle.requests.specs.declared.Data.TheVariants.{Boolean, DoubleLong, DoubleLongUnsigned, Integer, Enum}
 use Rattle.requests.specs.declared.Descriptor.{Descriptor}
-use Rattle.requests.specs.declared.OptionalData.TheVariants.{Absent, Present}
 use Rattle.requests.specs.declared.Request.TheVariants.{Get}
 use Rattle.responses.specs.declared.AccessResult.TheVariants.{ReadWriteDenied, TypeUnmatched}
 use Rattle.responses.specs.declared.Response.{Response}
@@ -68,25 +66,25 @@ pub record ItemsOf (rows : List EventRow) (m : Meter) : Type 0 where
   pub get_alarms : (i : ℕ) → got rows m i alarms ≡ GetData i (DoubleLongUnsigned m.alarms.register.bits)
   pub get_alarm_filter : (i : ℕ) → got rows m i alarm_filter ≡ GetData i (DoubleLongUnsigned m.alarms.register.filter)
   -- '.. only 4 writable ..': call 6
-  pub set_output_state : (v : ℕ) → access_on rows m false (disconnect_control 2) (Present (Boolean v)) ≡ unchanged_with m ReadWriteDenied
-  pub set_control_state : (v : ℕ) → access_on rows m false (disconnect_control 3) (Present (Enum v)) ≡ unchanged_with m ReadWriteDenied
-  pub set_control_mode : (v : ℕ) → access_on rows m false (disconnect_control 4) (Present (Enum v)) ≡ called_on rows m (call.SetMode v)
+  pub set_output_state : (v : ℕ) → access_on rows m false (disconnect_control 2) (Some (Boolean v)) ≡ unchanged_with m ReadWriteDenied
+  pub set_control_state : (v : ℕ) → access_on rows m false (disconnect_control 3) (Some (Enum v)) ≡ unchanged_with m ReadWriteDenied
+  pub set_control_mode : (v : ℕ) → access_on rows m false (disconnect_control 4) (Some (Enum v)) ≡ called_on rows m (call.SetMode v)
   -- 'A SET in class 71 is call 7 with the other two kept'
-  pub set_threshold : (v : ℕ) → access_on rows m false (limiter 4) (Present (DoubleLong v))
+  pub set_threshold : (v : ℕ) → access_on rows m false (limiter 4) (Some (DoubleLong v))
       ≡ called_on rows m (call.SetLimiter (signed_of v) m.limiter.over m.limiter.under)
-  pub set_over : (v : ℕ) → access_on rows m false (limiter 6) (Present (DoubleLongUnsigned v))
+  pub set_over : (v : ℕ) → access_on rows m false (limiter 6) (Some (DoubleLongUnsigned v))
       ≡ called_on rows m (call.SetLimiter m.limiter.threshold v m.limiter.under)
-  pub set_under : (v : ℕ) → access_on rows m false (limiter 7) (Present (DoubleLongUnsigned v))
+  pub set_under : (v : ℕ) → access_on rows m false (limiter 7) (Some (DoubleLongUnsigned v))
       ≡ called_on rows m (call.SetLimiter m.limiter.threshold m.limiter.over v)
   -- 'a SET of errors or alarms is call 13 or 12, clearing the bits that are zero in the value; a SET of the filter is call 10'
-  pub set_errors : (v : ℕ) → access_on rows m false errors (Present (DoubleLongUnsigned v)) ≡ called_on rows m (call.ClearErrors (inverse v))
-  pub set_alarms : (v : ℕ) → access_on rows m false alarms (Present (DoubleLongUnsigned v)) ≡ called_on rows m (call.ClearAlarms (inverse v))
-  pub set_alarm_filter : (v : ℕ) → access_on rows m false alarm_filter (Present (DoubleLongUnsigned v)) ≡ called_on rows m (call.SetAlarmFilter v)
+  pub set_errors : (v : ℕ) → access_on rows m false errors (Some (DoubleLongUnsigned v)) ≡ called_on rows m (call.ClearErrors (inverse v))
+  pub set_alarms : (v : ℕ) → access_on rows m false alarms (Some (DoubleLongUnsigned v)) ≡ called_on rows m (call.ClearAlarms (inverse v))
+  pub set_alarm_filter : (v : ℕ) → access_on rows m false alarm_filter (Some (DoubleLongUnsigned v)) ≡ called_on rows m (call.SetAlarmFilter v)
   -- '(.. methods 1, 2)'; 'a method takes an integer, its value ignored, and none at all is type-unmatched'
-  pub disconnect : (v : ℕ) → access_on rows m true (disconnect_control 1) (Present (Integer v)) ≡ called_on rows m call.RemoteDisconnect
-  pub reconnect : (v : ℕ) → access_on rows m true (disconnect_control 2) (Present (Integer v)) ≡ called_on rows m call.RemoteReconnect
-  pub disconnect_alone : access_on rows m true (disconnect_control 1) Absent ≡ unchanged_with m TypeUnmatched
-  pub reconnect_alone : access_on rows m true (disconnect_control 2) Absent ≡ unchanged_with m TypeUnmatched
+  pub disconnect : (v : ℕ) → access_on rows m true (disconnect_control 1) (Some (Integer v)) ≡ called_on rows m call.RemoteDisconnect
+  pub reconnect : (v : ℕ) → access_on rows m true (disconnect_control 2) (Some (Integer v)) ≡ called_on rows m call.RemoteReconnect
+  pub disconnect_alone : access_on rows m true (disconnect_control 1) None ≡ unchanged_with m TypeUnmatched
+  pub reconnect_alone : access_on rows m true (disconnect_control 2) None ≡ unchanged_with m TypeUnmatched
   -- two GETs from bytes to bytes, the logical names among them: 'class 70 at 0-0:96.3.10.255 (attributes 2 boolean ..', where the switch is Connected, and
   -- 'class 71 at 0-0:17.0.0.255 (attributes 4 as double-long ..', where the threshold is 3,000 watts
   pub output_state_bytes : m.control.state ≡ 1
@@ -98,7 +96,7 @@ pub record ItemsOf (rows : List EventRow) (m : Meter) : Type 0 where
 -- of every record, by any event rows; and 'object-undefined for anything else': there is no other row
 pub record Items : Type 0 where
   pub by_descriptor : (rows : List EventRow) (m : Meter) → ItemsOf rows m
-  pub no_others : (method : Bool) (d : Descriptor) → listed method d ≡ false → item_at items method d ≡ none
+  pub no_others : (method : Bool) (d : Descriptor) → listed method d ≡ false → item_at items method d ≡ None
   -- '0-0:96.3.10.255', '0-0:17.0.0.255', '0-0:97.97.0.255', '0-0:97.98.0.255' and '0-0:97.98.10.255': six bytes, the first one the highest
   pub names_numbered :
       logical_name 0 0 96 3 10 255 ∷ logical_name 0 0 17 0 0 255 ∷ logical_name 0 0 97 97 0 255 ∷ logical_name 0 0 97 98 0 255 ∷ logical_name 0 0 97 98 10 255 ∷ []

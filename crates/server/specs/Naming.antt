@@ -1,31 +1,20 @@
 -- The call that a SET or an ACTION names (document 02, A9).
-use Rattle.std.specs.Prelude.{true, false, cond, ℕ, eqb, ℤ}
-use Rattle.std.proofs.Math.Option.{Option, none, some}
+use Rattle.std.specs.Prelude.{true, false, cond, ℕ, eqb, ℤ, Option, Some, None}
 use Rattle.base.specs.Bits.{inverse}
+use Rattle.calls.specs.declared.Call.{Call}
 use Rattle.calls.specs.declared.Call.TheVariants as call
 use Rattle.calls.specs.Calls.{signed_of}
 use Rattle.requests.specs.declared.Data.{Data}
 use Rattle.requests.specs.declared.Data.TheVariants.{Boolean, DoubleLong, DoubleLongUnsigned, Integer, Enum}
-use Rattle.requests.specs.declared.OptionalData.{OptionalData}
-use Rattle.requests.specs.declared.OptionalData.TheVariants.{Absent, Present}
+use Rattle.requests.specs.Requests.{tag_of}
 use Rattle.requests.specs.declared.Request.{Request}
 use Rattle.requests.specs.declared.Request.TheVariants.{Get, Set, Action}
 use Rattle.server.specs.declared.Item.{Item}
 use Rattle.server.specs.declared.Operation.{Operation}
 use Rattle.server.specs.declared.Operation.TheVariants as operation
-use Rattle.server.specs.declared.Named.{Named}
-use Rattle.server.specs.declared.Named.TheVariants.{One, NotWritable}
 use Rattle.server.specs.Objects.{items, item_at}
 
--- the tag of a value's type
-abbrev pub tag_of : Data → ℕ
-tag_of (Boolean v) = 3
-tag_of (DoubleLong v) = 5
-tag_of (DoubleLongUnsigned v) = 6
-tag_of (Integer v) = 15
-tag_of (Enum v) = 22
-
--- its bytes as a number
+-- a value's bytes as a number
 abbrev pub number_of : Data → ℕ
 number_of (Boolean v) = v
 number_of (DoubleLong v) = v
@@ -34,27 +23,31 @@ number_of (Integer v) = v
 number_of (Enum v) = v
 
 -- of the limiter's threshold, Over and Under, an operation and a number: 'A SET in class 71 is call 7 with the other two kept; a SET of errors or alarms is call 13
--- or 12, clearing the bits that are zero in the value; a SET of the filter is call 10'; an attribute that is not writable names none. A method's number is 'ignored'
-abbrev pub named_by : ℤ → ℕ → ℕ → Operation → ℕ → Named
-named_by t o u operation.SetMode n = One (call.SetMode n)
-named_by t o u operation.SetThreshold n = One (call.SetLimiter (signed_of n) o u)
-named_by t o u operation.SetOverDuration n = One (call.SetLimiter t n u)
-named_by t o u operation.SetUnderDuration n = One (call.SetLimiter t o n)
-named_by t o u operation.ClearErrors n = One (call.ClearErrors (inverse n))
-named_by t o u operation.ClearAlarms n = One (call.ClearAlarms (inverse n))
-named_by t o u operation.SetAlarmFilter n = One (call.SetAlarmFilter n)
-named_by t o u operation.RemoteDisconnect n = One call.RemoteDisconnect
-named_by t o u operation.RemoteReconnect n = One call.RemoteReconnect
-named_by t o u operation.Nothing n = NotWritable
+-- or 12, clearing the bits that are zero in the value; a SET of the filter is call 10'. A method's number is 'ignored'
+abbrev pub named_by : ℤ → ℕ → ℕ → Operation → ℕ → Call
+named_by t o u operation.SetMode n = call.SetMode n
+named_by t o u operation.SetThreshold n = call.SetLimiter (signed_of n) o u
+named_by t o u operation.SetOverDuration n = call.SetLimiter t n u
+named_by t o u operation.SetUnderDuration n = call.SetLimiter t o n
+named_by t o u operation.ClearErrors n = call.ClearErrors (inverse n)
+named_by t o u operation.ClearAlarms n = call.ClearAlarms (inverse n)
+named_by t o u operation.SetAlarmFilter n = call.SetAlarmFilter n
+named_by t o u operation.RemoteDisconnect n = call.RemoteDisconnect
+named_by t o u operation.RemoteReconnect n = call.RemoteReconnect
+
+-- of a row; an attribute that is not writable names none
+abbrev pub named_from : ℤ → ℕ → ℕ → Option Operation → ℕ → Option Call
+named_from t o u (Some k) n = Some (named_by t o u k n)
+named_from t o u None n = None
 
 -- by a row and a value: of another type, or without one, it names none
-abbrev pub named_at : ℤ → ℕ → ℕ → OptionalData → Option Item → Named
-named_at t o u x none = NotWritable
-named_at t o u (Present x) (some a) = cond (eqb a.tag (tag_of x)) (named_by t o u a.names (number_of x)) NotWritable
-named_at t o u Absent (some a) = NotWritable
+abbrev pub named_at : ℤ → ℕ → ℕ → Option Data → Option Item → Option Call
+named_at t o u x None = None
+named_at t o u (Some x) (Some a) = cond (eqb a.tag (tag_of x)) (named_from t o u a.names (number_of x)) None
+named_at t o u None (Some a) = None
 
 -- by a request: a GET names none
-abbrev pub named_in : ℤ → ℕ → ℕ → Request → Named
-named_in t o u (Get i d) = NotWritable
-named_in t o u (Set i d x) = named_at t o u (Present x) (item_at items false d)
+abbrev pub named_in : ℤ → ℕ → ℕ → Request → Option Call
+named_in t o u (Get i d) = None
+named_in t o u (Set i d x) = named_at t o u (Some x) (item_at items false d)
 named_in t o u (Action i d x) = named_at t o u x (item_at items true d)

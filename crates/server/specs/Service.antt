@@ -1,14 +1,12 @@
 -- What bytes come to on a record, with a buffer for the response (document 02, A9): '20, bytes that are no whole such request; 21, answer buffer under 32 bytes; the
 -- order is 21, 12, 20.'
-use Rattle.std.specs.Prelude.{Bool, false, cond, List, [], ◌++◌, ℕ, ltb, length, drop}
+use Rattle.std.specs.Prelude.{Bool, false, cond, List, [], ◌++◌, ℕ, ltb, length, drop, Ok, Err}
 use Rattle.events.specs.Table.{EventRow}
 use Rattle.calls.specs.declared.Answer.{Answer}
 use Rattle.calls.specs.declared.Answer.TheVariants.{Accepted, Refused}
 use Rattle.calls.specs.declared.Letter.{Letter}
-use Rattle.calls.specs.declared.Letter.TheVariants.{None}
-use Rattle.requests.specs.declared.Parsed.{Parsed}
-use Rattle.requests.specs.declared.Parsed.TheVariants.{Ok, NotWhole}
-use Rattle.requests.specs.Requests.{request_in}
+use Rattle.calls.specs.declared.Letter.TheVariants.{None as NoLetter}
+use Rattle.requests.specs.Requests.{Parsed, request_in}
 use Rattle.responses.specs.Responses.{response_bytes}
 use Rattle.meter.specs.declared.Meter.{Meter}
 use Rattle.meter.specs.Sound.{sound_meter}
@@ -26,7 +24,7 @@ pub record Service : Type 0 where
 
 -- a refusal: no byte, no change, no letter
 abbrev pub refused_with : Meter → ℕ → Service
-refused_with m n = record { meter = m; answer = Refused n; bytes = []; letter = None; carried = false }
+refused_with m n = record { meter = m; answer = Refused n; bytes = []; letter = NoLetter; carried = false }
 
 -- 'Each whole request is answered'
 abbrev pub answering : Responded → Service
@@ -35,7 +33,7 @@ answering r = record { meter = r.meter; answer = Accepted; bytes = response_byte
 -- '20, bytes that are no whole such request'
 abbrev pub parsed_on : List EventRow → Meter → Parsed → Service
 parsed_on rows m (Ok r) = answering (responded_on rows m r)
-parsed_on rows m NotWhole = refused_with m 20
+parsed_on rows m (Err x) = refused_with m 20
 
 -- of a record that is known to be sound: 21, then 20
 unfoldable pub service_sound : List EventRow → Meter → List ℕ → List ℕ → Service

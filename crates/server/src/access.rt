@@ -1,12 +1,14 @@
 // What a whole request comes to, on a record.
-ghost use Rattle.std.specs.Prelude.{◌≡◌};
+ghost use Rattle.std.specs.Prelude.{◌≡◌, false};
 ghost use Rattle.tables.specs.Index.{table_in};
-ghost use Rattle.server.specs.Access.{unchanged_with, called_on, access_on, get_on, responded_on};
+ghost use Rattle.server.specs.Objects.{items, item_at};
+ghost use Rattle.server.specs.Access.{unchanged_with, called_on, call_at, access_on, read_at, get_on, responded_on};
 
-use crate::{Accessed, Found, Named, Responded, naming, objects, reading};
+use crate::{Accessed, Responded, naming, objects, reading};
 use calls::{Answer, Call, Letter};
+use limiter::Limiter;
 use meter::Meter;
-use requests::{Descriptor, OptionalData, Request};
+use requests::{Data, Descriptor, Request};
 use responses::{AccessResult, Response};
 use steps::Scalars;
 
@@ -26,17 +28,32 @@ fn called_on(table: &[u16; 256], meter: Meter, call: Call) -> Accessed
     ensures { result ≡ called_on (table_in table.now) meter call }
 {
     let outcome = meter.apply(table, call);
-    let answer = outcome.answer;
-    let after = outcome.meter;
-    let letter = outcome.letter;
-    match answer {
+    match outcome.answer {
         Answer::Accepted => Accessed {
-            meter: after,
+            meter: outcome.meter,
             result: AccessResult::Success,
-            letter,
+            letter: outcome.letter,
         },
-        Answer::Refused(number) => unchanged(meter, AccessResult::ReadWriteDenied),
+        Answer::Refused(_) => unchanged(meter, AccessResult::ReadWriteDenied),
     }
+}
+
+// The call that a SET or an ACTION names, or its result where it names none.
+fn call_named(
+    limiter: Limiter,
+    method: bool,
+    about: Descriptor,
+    value: Option<Data>,
+) -> Result<Call, AccessResult>
+    ensures { result ≡ call_at limiter value (item_at items method about) }
+{
+    let row = objects::find(method, about).ok_or(AccessResult::ObjectUndefined)?;
+    let given = value.ok_or(AccessResult::TypeUnmatched)?;
+    if row.tag != given.tag() {
+        return Err(AccessResult::TypeUnmatched);
+    }
+    let operation = row.names.ok_or(AccessResult::ReadWriteDenied)?;
+    Ok(naming::named_by(limiter, operation, naming::number_of(given)))
 }
 
 // A SET of an attribute, or an ACTION on a method.
@@ -45,42 +62,33 @@ fn access_on(
     meter: Meter,
     method: bool,
     about: Descriptor,
-    value: OptionalData,
+    value: Option<Data>,
 ) -> Accessed
     ensures { result ≡ access_on (table_in table.now) meter method about value }
 {
-    let found = objects::find(method, about);
-    let Found::At(row) = found else {
-        return unchanged(meter, AccessResult::ObjectUndefined);
-    };
-    let OptionalData::Present(given) = value else {
-        return unchanged(meter, AccessResult::TypeUnmatched);
-    };
-    if row.tag != naming::tag_of(given) {
-        return unchanged(meter, AccessResult::TypeUnmatched);
+    match call_named(meter.limiter, method, about, value) {
+        Ok(call) => called_on(table, meter, call),
+        Err(result) => unchanged(meter, result),
     }
-    let operation = row.names;
-    let named = naming::named_by(meter.limiter, operation, naming::number_of(given));
-    let Named::One(call) = named else {
-        return unchanged(meter, AccessResult::ReadWriteDenied);
-    };
-    called_on(table, meter, call)
+}
+
+// The value of an attribute, where there is one.
+fn read_on(scalars: Scalars, about: Descriptor) -> Option<Data>
+    ensures { result ≡ read_at scalars (item_at items false about) }
+{
+    let row = objects::find(false, about)?;
+    let value = row.reads?;
+    Some(reading::value_of(scalars, value))
 }
 
 // A GET of an attribute.
 fn get_on(scalars: Scalars, invoke: u8, about: Descriptor) -> Response
     ensures { result ≡ get_on scalars invoke about }
 {
-    let found = objects::find(false, about);
-    let Found::At(row) = found else {
-        return Response::GetResult(invoke, AccessResult::ObjectUndefined);
-    };
-    let reads = row.reads;
-    let read = reading::value_of(scalars, reads);
-    let OptionalData::Present(value) = read else {
-        return Response::GetResult(invoke, AccessResult::ObjectUndefined);
-    };
-    Response::GetData(invoke, value)
+    match read_on(scalars, about) {
+        Some(value) => Response::GetData(invoke, value),
+        None => Response::GetResult(invoke, AccessResult::ObjectUndefined),
+    }
 }
 
 // A request.
@@ -98,27 +106,21 @@ pub(crate) fn respond(table: &[u16; 256], meter: Meter, request: Request) -> Res
             }
         }
         Request::Set(invoke, about, value) => {
-            let accessed = access_on(table, meter, false, about, OptionalData::Present(value));
-            let after = accessed.meter;
-            let result = accessed.result;
-            let letter = accessed.letter;
+            let accessed = access_on(table, meter, false, about, Some(value));
             Responded {
-                meter: after,
-                response: Response::SetResult(invoke, result),
-                letter,
-                carried: result.is_success(),
+                meter: accessed.meter,
+                response: Response::SetResult(invoke, accessed.result),
+                letter: accessed.letter,
+                carried: accessed.result.is_success(),
             }
         }
         Request::Action(invoke, about, parameter) => {
             let accessed = access_on(table, meter, true, about, parameter);
-            let after = accessed.meter;
-            let result = accessed.result;
-            let letter = accessed.letter;
             Responded {
-                meter: after,
-                response: Response::ActionResult(invoke, result),
-                letter,
-                carried: result.is_success(),
+                meter: accessed.meter,
+                response: Response::ActionResult(invoke, accessed.result),
+                letter: accessed.letter,
+                carried: accessed.result.is_success(),
             }
         }
     }

@@ -15,9 +15,9 @@ mod naming;
 mod objects;
 mod reading;
 
-use calls::{Answer, Call, Letter};
+use calls::{Answer, Letter};
 use meter::Meter;
-use requests::Parsed;
+use requests::{Descriptor, Parsed};
 
 // What a GET of an attribute reads.
 #[derive(Clone, Copy)]
@@ -32,8 +32,6 @@ pub enum Value {
     Errors,
     Alarms,
     AlarmFilter,
-    // A method has no value.
-    Nothing,
 }
 
 // The call that a SET of an attribute or an ACTION on a method names.
@@ -50,35 +48,18 @@ pub enum Operation {
     SetAlarmFilter,
     RemoteDisconnect,
     RemoteReconnect,
-    // An attribute that is not writable.
-    Nothing,
 }
 
 // An attribute or a method of an object: its class-id, the logical name of its object, its attribute-id or
-// method-id, the tag of its type (a method's is that of its parameter), what it reads and what it names.
+// method-id, the tag of its type (a method's is that of its parameter), what a GET of it reads (a method has no
+// value) and what a SET or an ACTION names (of an attribute that is not writable, nothing).
 #[derive(Clone, Copy)]
 pub struct Item {
     pub method: bool,
-    pub class: u16,
-    pub name: u64,
-    pub id: u8,
+    pub about: Descriptor,
     pub tag: u8,
-    pub reads: Value,
-    pub names: Operation,
-}
-
-// What the meter has under a descriptor.
-#[derive(Clone, Copy)]
-pub enum Found {
-    At(Item),
-    Undefined,
-}
-
-// The call that a SET or an ACTION names.
-#[derive(Clone, Copy)]
-pub enum Named {
-    One(Call),
-    NotWritable,
+    pub reads: Option<Value>,
+    pub names: Option<Operation>,
 }
 
 // What a SET or an ACTION comes to: the record, its result, and the letter of the move that it made.
@@ -135,20 +116,16 @@ pub fn serve_sound(meter: Meter, table: &[u16; 256], request: &[u8], out: &mut [
     if out.len() < ANSWER_SIZE {
         return refused(meter, 21);
     }
-    let parsed = requests::parse(request);
-    let Parsed::Ok(whole) = parsed else {
+    let Parsed::Ok(whole) = requests::parse(request) else {
         return refused(meter, 20);
     };
     let responded = access::respond(table, meter, whole);
-    let after = responded.meter;
-    let response = responded.response;
-    let letter = responded.letter;
-    let length = responses::put_response(out, response);
+    let length = responses::put_response(out, responded.response);
     Served {
-        meter: after,
+        meter: responded.meter,
         answer: Answer::Accepted,
         length,
-        letter,
+        letter: responded.letter,
         carried: responded.carried,
     }
 }

@@ -1,18 +1,15 @@
 use native.Mathlib.Omega.{arith}
-use Rattle.responses.proofs.Lengths.{short_length, long_length}
+use Rattle.codec.proofs.Stores.{sets_cat}
+use Rattle.codec.proofs.Numbers.{length_be}
+use Rattle.responses.proofs.Lengths.{short_length, long_length, short_bytes, long_bytes}
 use Rattle.responses.proofs.put_data.Goals as goal
 
 pub returns-in-Boolean : goal.returns-in-Boolean
-returns-in-Boolean c = rw c.in-Boolean.is (omega arith, (short_length 3 _, c.put_short.ensures))
+returns-in-Boolean c =
+    let e = short_bytes c.args.value _ c.in-Boolean.is in
+    rw (e, c.put_u8-in-Boolean.ensures, c.put_u8.ensures, c.tag.ensures) (omega arith, (short_length _ _, simp (sets_cat, length_be)))
 
 pub returns-in-DoubleLong : goal.returns-in-DoubleLong
-returns-in-DoubleLong c = rw c.in-DoubleLong.is (omega arith, (long_length 5 _, c.put_long.ensures))
-
-pub returns-in-DoubleLongUnsigned : goal.returns-in-DoubleLongUnsigned
-returns-in-DoubleLongUnsigned c = rw c.in-DoubleLongUnsigned.is (omega arith, (long_length 6 _, c.put_long-in-DoubleLongUnsigned.ensures))
-
-pub returns-in-Integer : goal.returns-in-Integer
-returns-in-Integer c = rw c.in-Integer.is (omega arith, (short_length 15 _, c.put_short-in-Integer.ensures))
-
-pub returns-in-Enum : goal.returns-in-Enum
-returns-in-Enum c = rw c.in-Enum.is (omega arith, (short_length 22 _, c.put_short-in-Enum.ensures))
+returns-in-DoubleLong c =
+    let e = long_bytes c.args.value _ c.in-DoubleLong.is in
+    rw (e, c.put_u32.ensures, c.put_u8.ensures, c.tag.ensures) (omega arith, (long_length _ _, simp (sets_cat, length_be)))

@@ -3,5 +3,5 @@ use Rattle.requests.proofs.described.descriptor_in.Goals as goal
 
 pub returns : goal.returns
 returns c =
-    rw (c.join_name-name.ensures, c.u32_at-low.ensures, c.get_u16-high.ensures, c.get_u16-class.ensures)
+    rw (c.from-low.ensures, c.u32_at.ensures, c.from-high.ensures, c.get_u16.ensures, c.get_u16-class.ensures)
     (descriptor_bytes _)
