@@ -36,6 +36,7 @@ pub enum Call {
     SetProfile(u32, i32, u32, u32),
 }
 
+// An enum of its own and no Result: document 01 names this form, beside the record that goes with it.
 #[derive(Clone, Copy)]
 pub enum Answer {
     Accepted,
@@ -56,7 +57,8 @@ impl Answer {
 }
 
 // The move of the switch that a call made, by its letter in the switch table: the letter's byte in ASCII,
-// and 0 for none.
+// and 0 for none. `None` is one of them and no Option: document 02 has the switch rule answer 'a to h or
+// none', and C is told it by a byte.
 #[derive(Clone, Copy)]
 pub enum Letter {
     A = 97,
@@ -80,7 +82,7 @@ impl Letter {
     }
 }
 
-// A kind and five numbers.
+// A kind and five numbers, as bytes and C give them: the kind is a number, since any may come.
 #[derive(Clone, Copy)]
 pub struct Command {
     pub kind: u32,

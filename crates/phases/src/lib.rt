@@ -36,7 +36,7 @@ pub enum ThreePhaseCall {
     Script(u32),
 }
 
-// A kind and eight numbers.
+// A kind and eight numbers, as bytes and C give them: the kind is a number, since any may come.
 #[derive(Clone, Copy)]
 pub struct ThreePhaseCommand {
     pub kind: u32,
