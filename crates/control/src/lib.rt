@@ -37,6 +37,7 @@ pub enum Decision {
     NotListed,
 }
 
+// Mode and state are numbers and no enums: a page may hold any, and a record with such a one is not sound.
 #[derive(Clone, Copy)]
 pub struct Control {
     pub mode: u8,

@@ -24,7 +24,8 @@ pub struct Emergency {
     pub duration: u32,
     // How many of them are left.
     pub left: u32,
-    // 0 no profile, 1 waiting, 2 active.
+    // 0 no profile, 1 waiting, 2 active. A number and no enum: a page may hold any, and a record with any
+    // other is not sound.
     pub state: u8,
     // How many group ids there are.
     pub count: u8,

@@ -64,7 +64,7 @@ fn put_data(out: &mut [u8], at: usize, value: Data) -> usize
     }
 }
 
-// The four bytes that every response begins with.
+// The four bytes that every response begins with, stored as all numbers are.
 fn put_front(out: &mut [u8], tag: u8, invoke: u8, fourth: u8)
     requires { 4 ≤ length out.old }
     ensures { out.new ≡ sets out.old 0 (front_format.enc (tag, (1, (invoke, fourth)))) }

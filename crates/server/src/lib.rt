@@ -52,7 +52,8 @@ pub enum Operation {
 
 // An attribute or a method of an object: its class-id, the logical name of its object, its attribute-id or
 // method-id, the tag of its type (a method's is that of its parameter), what a GET of it reads (a method has no
-// value) and what a SET or an ACTION names (of an attribute that is not writable, nothing).
+// value) and what a SET or an ACTION names (of an attribute that is not writable, nothing). The tag is a
+// number, since it is compared with the one that was sent.
 #[derive(Clone, Copy)]
 pub struct Item {
     pub method: bool,
@@ -71,7 +72,7 @@ pub struct Accessed {
 }
 
 // What a request comes to: the record, the response, the letter of the move that it made, and whether a call
-// was carried out.
+// was carried out. The flag makes no Option of the record: it is handed back either way, as by every call.
 #[derive(Clone, Copy)]
 pub struct Responded {
     pub meter: Meter,
