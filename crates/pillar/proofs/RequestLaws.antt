@@ -18,8 +18,8 @@ use Rattle.calls.specs.declared.Call.{Call}
 use Rattle.calls.specs.declared.Answer.{Answer}
 use Rattle.calls.specs.declared.Answer.TheVariants.{Accepted, Refused}
 use Rattle.calls.specs.declared.Command.{Command}
-use Rattle.calls.specs.declared.Parsed.{Parsed as CallParsed}
-use Rattle.calls.specs.declared.Parsed.TheVariants as call_parsed
+use Rattle.calls.specs.Calls.{ReadCall}
+use Rattle.calls.specs.declared.CommandError.TheVariants.{NoKind}
 use Rattle.calls.specs.Calls.{answer_number, letter_byte, call_of, InRange, AllInRange}
 use Rattle.history.specs.OnePhase.{Fresh, account}
 use Rattle.requests.specs.Requests.{Parsed, request_in}
@@ -207,13 +207,13 @@ module _ (rows : List EventRow) (table : every lawful rows ≡ true) (f : Fresh)
 
   -- a command, as one call more or none
   module _ (before : List Call) (k : AllInRange before) (r : Command) where
-    one_call : (c : Call) → call_of r ≡ call_parsed.Ok c → InRange c → call_page rows (page_of (after before)) r ≡ page_of (after (before ++ (c ∷ [])))
+    one_call : (c : Call) → call_of r ≡ Ok c → InRange c → call_page rows (page_of (after before)) r ≡ page_of (after (before ++ (c ∷ [])))
     unfolding commanded record_after
     one_call c e i =
         page_on rows table (from_record rows table f t before k) r (rw e (i, tt))
         ∙ ap page_of (rw e (sym (record_append rows (record_of (fresh_state f)) before (c ∷ []))))
 
-    no_call : call_of r ≡ call_parsed.NoKind → call_page rows (page_of (after before)) r ≡ page_of (after before)
+    no_call : call_of r ≡ Err NoKind → call_page rows (page_of (after before)) r ≡ page_of (after before)
     unfolding commanded
     no_call e = page_on rows table (from_record rows table f t before k) r (rw e tt) ∙ rw e
 
@@ -223,14 +223,14 @@ module _ (rows : List EventRow) (table : every lawful rows ≡ true) (f : Fresh)
   pages_from [] before i k = refl
   pages_from (command r ∷ xs) before i k = go (call_of r) refl i (pages_from xs)
     where
-      go : (p : CallParsed) → call_of r ≡ p → AllInputsInRange (parsed_input p (inputs_in xs))
+      go : (p : ReadCall) → call_of r ≡ p → AllInputsInRange (parsed_input p (inputs_in xs))
           → ((before : List Call) → AllInputsInRange (inputs_in xs) → AllInRange before
           → sent_pages rows (page_of (after before)) xs ≡ page_of (after (calls_behind rows f before (inputs_in xs))))
           → sent_pages rows (call_page rows (page_of (after before)) r) xs ≡ page_of (after (calls_behind rows f before (parsed_input p (inputs_in xs))))
-      go (call_parsed.Ok c) e i rest =
+      go (Ok c) e i rest =
           ap (λ (page : List ℕ). sent_pages rows page xs) (one_call before k r c e i.0)
           ∙ rest (before ++ (c ∷ [])) i.1 (range_append before (c ∷ []) k (i.0, tt))
-      go call_parsed.NoKind e i rest = ap (λ (page : List ℕ). sent_pages rows page xs) (no_call before k r e) ∙ rest before i k
+      go (Err NoKind) e i rest = ap (λ (page : List ℕ). sent_pages rows page xs) (no_call before k r e) ∙ rest before i k
   pages_from (bytes s l ∷ xs) before i k =
       let n = named rows table f t before k (request s l) i.0 in
       let more = input_calls (account rows f before) (request s l) in
