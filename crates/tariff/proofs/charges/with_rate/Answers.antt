@@ -1,4 +1,4 @@
-use Rattle.base.proofs.Prelude.{refl, ◌≤◌, ◌+◌, ◌*◌, arith}
+use Rattle.base.proofs.Prelude.{◌≤◌, ◌+◌, ◌*◌, arith}
 use Rattle.tariff.proofs.Costs.{cost_most}
 use Rattle.tariff.proofs.charges.with_rate.Goals as goal
 use Rattle.tariff.proofs.charges.with_rate.Goals.{Start}
@@ -9,12 +9,3 @@ most c = cost_most c.args.price c.args.import.watthours c.args.import.wattsecond
 
 pub overflow_mul-parts : goal.overflow_mul-parts
 overflow_mul-parts c = rw c.from-2.ensures (record { fits = omega (arith, most (goal.at.overflow_mul-parts c).Start) })
-
-pub overflow_add-parts : goal.overflow_add-parts
-overflow_add-parts c = rw (c.from-2.ensures, c.from.ensures) (record { fits = omega (arith, most (goal.at.overflow_add-parts c).Start) })
-
-pub overflow_add-cents : goal.overflow_add-cents
-overflow_add-cents c = rw (c.from-2.ensures, c.from.ensures) (record { fits = omega (arith, most (goal.at.overflow_add-cents c).Start) })
-
-pub returns : goal.returns
-returns c = rw (c.from-2.ensures, c.from.ensures) (refl, omega (arith, most (goal.at.returns c).Start))
