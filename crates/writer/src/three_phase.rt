@@ -39,7 +39,7 @@ fn put_monitored(out: &mut [u8], at: usize, m: MonitoredValue)
     requires { at + monitored_area.width ≤ length out.old }
     ensures { out.new ≡ sets out.old at (monitored_area.enc m) }
 {
-    codec::put_u32(out, at, areas::watts(m.threshold));
+    codec::put_u32(out, at, m.threshold.unsigned_abs());
     codec::put_flag(out, at + 4, m.exceeded);
     codec::put_u32(out, at + 5, m.run);
 }

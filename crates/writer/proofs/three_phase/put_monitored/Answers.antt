@@ -4,5 +4,5 @@ use Rattle.writer.proofs.three_phase.put_monitored.Goals as goal
 pub returns : goal.returns
 returns c =
     let back = to_z-of_z w32 c.args.m.threshold (record { sfits = c.struct_told-1.given.0.1 }) in
-    rw (c.put_u32-2.ensures, c.put_flag.ensures, c.put_u32.ensures, c.watts.ensures ∙ ap nat_abs back)
+    rw (c.put_u32-2.ensures, c.put_flag.ensures, c.put_u32.ensures, c.unsigned_abs.ensures.value ∙ ap nat_abs back)
     (simp (sets_cat, length_be, add_assoc))
