@@ -1,5 +1,6 @@
 -- The record in the bytes of the three-phase meter's page: bytes that pass the reader's test hold thresholds that their fields can hold, and the record of
 -- bytes that do not is not sound; the scalars and the arrays of the logs, read apart, make the record, and their tests are its test.
+use mathlib.Core.Bool.{and_assoc}
 use Rattle.page.proofs.Common.{◌≡◌, refl, ap, ◌∙◌, Bool, true, false, ◌&&◌, and-true, List, [], ◌∷◌, ℕ, ◌+◌, ◌≤◌, add_assoc, leb, leb-true, and_left}
 use Rattle.page.proofs.Common.{and_right, every, every_first, every_rest, num_at, pos, is_threshold, sound_limiter, sound_arrays, sound_logs}
 use Rattle.events.specs.Table.{EventRow}
@@ -58,12 +59,16 @@ swapped false p b q = refl
 four : (a b c d p q r t : Bool) → (a && p) && ((b && q) && ((c && r) && (d && t))) ≡ (a && (b && (c && d))) && (p && (q && (r && t)))
 four a b c d p q r t = rw (swapped c r d t, swapped b q (c && d) (r && t)) (swapped a p (b && (c && d)) (q && (r && t)))
 
-pub tests_are : (s : List ℕ) → test s 46 && (test s 55 && (test s 64 && test s 73)) ≡ three_phase_is_record s
+flat : (a b c d : Bool) → ((a && b) && c) && d ≡ a && (b && (c && d))
+flat a b c d = simp and_assoc
+
+pub tests_are : (s : List ℕ) → ((test s 46 && test s 55) && test s 64) && test s 73 ≡ three_phase_is_record s
 unfolding three_phase_layout
 tests_are s =
     let v : ℕ → Bool = monitored_area.valid s in
     let t : ℕ → Bool = λ at. is_threshold (monitored_area.dec s at).threshold in
-    rw (valid_is s) (four (v 46) (v 55) (v 64) (v 73) (t 46) (t 55) (t 64) (t 73))
+    flat (test s 46) (test s 55) (test s 64) (test s 73)
+    ∙ rw (valid_is s) (four (v 46) (v 55) (v 64) (v 73) (t 46) (t 55) (t 64) (t 73))
 
 pub passed_thresholds : (s : List ℕ) → three_phase_is_record s ≡ true → are_thresholds (limiters_area.dec s 38) ≡ true
 unfolding three_phase_layout

@@ -25,13 +25,13 @@ fn three_phase_has_pairs(s: &[u8]) -> bool
     ensures { result ≡ three_phase_has_pairs s.now }
 {
     areas::is_pair(s, 0, THREE_PHASE_CONTROL, CONTROL_LEN)
-        & (areas::is_pair(s, 4, LIMITERS, LIMITERS_LEN)
-            & (areas::is_pair(s, 8, THREE_PHASE_CLOCK, CLOCK_LEN)
-                & (areas::is_pair(s, 12, THREE_PHASE_ALARMS, ALARMS_LEN)
-                    & (areas::is_pair(s, 16, THREE_PHASE_ERRORS, REGISTER_LEN)
-                        & (areas::is_pair(s, 20, THREE_PHASE_FIRST_LOG, LOG_LEN)
-                            & (areas::is_pair(s, 24, THREE_PHASE_SECOND_LOG, LOG_LEN)
-                                & areas::is_pair(s, 28, THREE_PHASE_THIRD_LOG, LOG_LEN)))))))
+        & areas::is_pair(s, 4, LIMITERS, LIMITERS_LEN)
+        & areas::is_pair(s, 8, THREE_PHASE_CLOCK, CLOCK_LEN)
+        & areas::is_pair(s, 12, THREE_PHASE_ALARMS, ALARMS_LEN)
+        & areas::is_pair(s, 16, THREE_PHASE_ERRORS, REGISTER_LEN)
+        & areas::is_pair(s, 20, THREE_PHASE_FIRST_LOG, LOG_LEN)
+        & areas::is_pair(s, 24, THREE_PHASE_SECOND_LOG, LOG_LEN)
+        & areas::is_pair(s, 28, THREE_PHASE_THIRD_LOG, LOG_LEN)
 }
 
 // Whether the bytes are those of a monitored value: Exceeded is 0 or 1, and the threshold is one that
@@ -49,9 +49,9 @@ fn three_phase_is_record(s: &[u8]) -> bool
     ensures { result ≡ three_phase_is_record s.now }
 {
     is_monitored(s, LIMITERS + 8)
-        & (is_monitored(s, LIMITERS + 8 + MONITORED_LEN)
-            & (is_monitored(s, LIMITERS + 8 + 2 * MONITORED_LEN)
-                & is_monitored(s, LIMITERS + 8 + 3 * MONITORED_LEN)))
+        & is_monitored(s, LIMITERS + 8 + MONITORED_LEN)
+        & is_monitored(s, LIMITERS + 8 + 2 * MONITORED_LEN)
+        & is_monitored(s, LIMITERS + 8 + 3 * MONITORED_LEN)
 }
 
 fn monitored_at(s: &[u8], at: usize) -> MonitoredValue
@@ -59,7 +59,7 @@ fn monitored_at(s: &[u8], at: usize) -> MonitoredValue
     ensures { result ≡ monitored_area.dec s.now at }
 {
     MonitoredValue {
-        threshold: areas::threshold(codec::get_u32(s, at)),
+        threshold: codec::get_u32(s, at).cast_signed(),
         exceeded: codec::get_flag(s, at + 4),
         run: codec::get_u32(s, at + 5),
     }
