@@ -6,6 +6,7 @@ use Prim.Native.Nat.{ℕ, zero, suc, ◌+◌, ◌-◌, ◌<◌, ◌≤◌}
 use native.Mathlib.Numerals.{add-one}
 use native.Mathlib.Omega.{arith}
 use lib.Dec.{ltb}
+use mir.Val.{bool_byte}
 use lib.ListN.{length, length-set}
 use lib.Seq.{set-set}
 use Rattle.events.specs.Table.{EventRow}
@@ -60,14 +61,19 @@ passing_most (suc n) test = go (test n) (passing_most n test)
     go true h = omega arith
     go false h = omega arith
 
-pub passing_room : (n k r : ℕ) (test : ℕ → Bool) (b : Bool) → k ≡ passing n test → r ≡ cond b 1 0 → k + r ≤ n + 1
+-- what a round adds to a count
+byte_is : (b : Bool) → bool_byte b ≡ cond b 1 0
+byte_is true = refl
+byte_is false = refl
+
+pub passing_room : (n k r : ℕ) (test : ℕ → Bool) (b : Bool) → k ≡ passing n test → r ≡ bool_byte b → k + r ≤ n + 1
 passing_room n k r test true so_far adds = omega (arith, passing_most n test)
 passing_room n k r test false so_far adds = omega (arith, passing_most n test)
 
-pub next_passing : (n k r : ℕ) (test : ℕ → Bool) (b : Bool) → k ≡ passing n test → r ≡ cond b 1 0 → b ≡ test n
+pub next_passing : (n k r : ℕ) (test : ℕ → Bool) (b : Bool) → k ≡ passing n test → r ≡ bool_byte b → b ≡ test n
     → k + r ≡ passing (n + 1) test
 unfolding passing
-next_passing n k r test b so_far adds passes = rw (so_far, adds, passes, add-one n)
+next_passing n k r test b so_far adds passes = rw (so_far, adds, byte_is b, passes, add-one n)
 
 -- a meter in a round, whatever its clock was before
 pub same_round : (m n : Meter) (i : ℕ) → in_round m 0 ≡ in_round n 0 → in_round m i ≡ in_round n i

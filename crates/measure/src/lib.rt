@@ -5,7 +5,7 @@
 // core has it, so that loading is not part of what is timed.
 #![tactic(auto)]
 
-ghost use Rattle.std.specs.Prelude.{◌≡◌, cond};
+ghost use Rattle.std.specs.Prelude.{◌≡◌};
 ghost use Rattle.tables.specs.Bytes.{table_of};
 ghost use Rattle.tables.specs.Index.{table_in};
 ghost use Rattle.page.specs.Layout.{read_of};
@@ -21,13 +21,6 @@ pub extern "C" fn measure_table(table: &[u8], index: &mut [u16; 256])
     ensures { table_in index.new ≡ table_of table.now }
 {
     *index = tables::index_of(table);
-}
-
-// What a round adds to a count.
-fn one_if(counts: bool) -> u32
-    ensures { result ≡ cond counts 1 0 }
-{
-    if counts { 1 } else { 0 }
 }
 
 // The meter after the whole records of a list, each made a call by the method on the whole meter, which
@@ -69,15 +62,13 @@ pub extern "C" fn measure_calls(
     let read = reader::read_page(table, page);
     let answer = read.answer;
     if let Answer::Refused(number) = answer {
-        return number as u32;
+        return u32::from(number);
     }
     let mut meter = read.meter;
-    let mut left = rounds;
-    while 0 < left {
+    for _ in 0..rounds {
         meter = run(meter, records, by_method, table);
-        left -= 1;
     }
-    writer::write_page(meter, table, page).number() as u32
+    u32::from(writer::write_page(meter, table, page).number())
 }
 
 // Tests `rounds` times whether the record of a page is sound, and answers how often it was. The
@@ -91,7 +82,7 @@ pub extern "C" fn measure_sound(page: &[u8], rounds: u32, table: &[u16; 256]) ->
     let mut sound = 0;
     for round in 0..rounds {
         meter.clock = round;
-        sound += one_if(meter.sound(table));
+        sound += u32::from(meter.sound(table));
     }
     sound
 }
@@ -108,7 +99,7 @@ pub extern "C" fn measure_write(page: &mut [u8], rounds: u32, table: &[u16; 256]
     for round in 0..rounds {
         meter.clock = round;
         let answer = writer::write_page(meter, table, page);
-        accepted += one_if(answer.number() == 0);
+        accepted += u32::from(answer.number() == 0);
     }
     accepted
 }
@@ -136,7 +127,7 @@ pub extern "C" fn measure_read(page: &mut [u8], rounds: u32, table: &[u16; 256])
         count_round(page, round);
         let read = reader::read_page(table, page);
         let answer = read.answer;
-        accepted += one_if(answer.number() == 0);
+        accepted += u32::from(answer.number() == 0);
     }
     accepted
 }

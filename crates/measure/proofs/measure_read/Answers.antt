@@ -18,7 +18,7 @@ loop-round-init c = (omega arith, refl, refl, refl)
 pub overflow_add-accepted : goal.overflow_add-accepted
 overflow_add-accepted c =
     let l = c.loop-round in
-    omega (arith, passing_room l.round l.accepted c.one_if-accepted.result _ (eqb c.number.result 0) l.invariant.1 c.one_if-accepted.ensures)
+    omega (arith, passing_room l.round l.accepted c.from-accepted.result _ (eqb c.number.result 0) l.invariant.1 c.from-accepted.ensures)
 
 pub loop-round-preserved : goal.loop-round-preserved
 loop-round-preserved c =
@@ -28,8 +28,8 @@ loop-round-preserved c =
     let rows = table_in a.table.now in
     let counted : c.count_round.new.page ≡ page_in_round page l.round = c.count_round.ensures ∙ rw l.invariant.2 (next_page page l.round) in (
       search rules,
-      next_passing l.round l.accepted c.one_if-accepted.result (λ i. is_accepted (read_of rows (page_in_round page i)).answer) _ l.invariant.1
-          c.one_if-accepted.ensures
+      next_passing l.round l.accepted c.from-accepted.result (λ i. is_accepted (read_of rows (page_in_round page i)).answer) _ l.invariant.1
+          c.from-accepted.ensures
           (ap (λ (k : ℕ). eqb k 0) c.number.ensures
           ∙ ap (λ (o : Outcome). is_accepted o.answer) (c.read_page-read.ensures.value ∙ ap (read_of rows) counted)),
       counted ∙ after_round page l.round,

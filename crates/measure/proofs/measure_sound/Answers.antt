@@ -16,7 +16,7 @@ loop-round-init c = (omega arith, refl, refl)
 pub overflow_add-sound : goal.overflow_add-sound
 overflow_add-sound c =
     let l = c.loop-round in
-    omega (arith, passing_room l.round l.sound c.one_if-sound.result _ c.sound.result l.invariant.1 c.one_if-sound.ensures)
+    omega (arith, passing_room l.round l.sound c.from-sound.result _ c.sound.result l.invariant.1 c.from-sound.ensures)
 
 pub loop-round-preserved : goal.loop-round-preserved
 loop-round-preserved c =
@@ -24,7 +24,7 @@ loop-round-preserved c =
     let m = c.read_page-read.result.meter in
     let rows = table_in c.args.table.now in (
       search rules,
-      next_passing l.round l.sound c.one_if-sound.result (λ i. sound_meter rows (in_round m i)) c.sound.result l.invariant.1 c.one_if-sound.ensures
+      next_passing l.round l.sound c.from-sound.result (λ i. sound_meter rows (in_round m i)) c.sound.result l.invariant.1 c.from-sound.ensures
           (c.sound.ensures.value ∙ ap (sound_meter rows) (same_round l.meter m l.round l.invariant.2)),
       l.invariant.2,
     )

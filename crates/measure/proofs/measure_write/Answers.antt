@@ -18,7 +18,7 @@ loop-round-init c = (omega arith, refl, refl, refl, refl)
 pub overflow_add-accepted : goal.overflow_add-accepted
 overflow_add-accepted c =
     let l = c.loop-round in
-    omega (arith, passing_room l.round l.accepted c.one_if-accepted.result _ (eqb c.number.result 0) l.invariant.1 c.one_if-accepted.ensures)
+    omega (arith, passing_room l.round l.accepted c.from-accepted.result _ (eqb c.number.result 0) l.invariant.1 c.from-accepted.ensures)
 
 pub loop-round-preserved : goal.loop-round-preserved
 loop-round-preserved c =
@@ -33,7 +33,7 @@ loop-round-preserved c =
     ∙ ap (λ (x : Meter). write_answer rows x l.page) same
     ∙ answer_by_length rows (in_round m l.round) l.page page l.invariant.4 in (
       search rules,
-      next_passing l.round l.accepted c.one_if-accepted.result (λ i. is_accepted (write_answer rows (in_round m i) page)) _ l.invariant.1 c.one_if-accepted.ensures
+      next_passing l.round l.accepted c.from-accepted.result (λ i. is_accepted (write_answer rows (in_round m i) page)) _ l.invariant.1 c.from-accepted.ensures
           (ap (λ (k : ℕ). eqb k 0) c.number.ensures ∙ ap is_accepted answers),
       l.invariant.2,
       c.write_page-answer.ensures.value.1 ∙ rw (same, l.invariant.3) (next_written rows m page l.round),
