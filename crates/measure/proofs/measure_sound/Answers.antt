@@ -1,6 +1,5 @@
 -- `measure_sound` meets its contract: the rounds so far that were sound, on the meter that was read but for its clock.
 use mathlib.Core.Path.{◌≡◌, refl, ap, ◌∙◌}
-use Prim.Native.Nat.{◌-◌}
 use native.Mathlib.Omega.{arith}
 use borrow.Author.Rules.{rules}
 use Rattle.tables.specs.Index.{table_in}

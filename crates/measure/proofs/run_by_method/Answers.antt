@@ -1,7 +1,5 @@
 -- `run_by_method` meets its contract: the records that are left, on the meter so far, are all of them on the meter that was given.
 use mathlib.Core.Path.{refl, sym, ◌∙◌}
-use Prim.Native.Nat.{◌-◌}
-use native.Mathlib.Omega.{arith}
 use borrow.Author.Rules.{rules}
 use Rattle.replay.proofs.Runs.{after_record, last_turn}
 use Rattle.measure.proofs.run_by_method.Goals as goal
