@@ -98,7 +98,10 @@ pub fn replay_page(records: &[u8], table: &[u8], page: &mut [u8]) -> u32
     ensures numbers { ThreePhaseReplayNumbers }
 {
     let index = tables::index_of(table);
-    phases_replay::replay_three_phase(&index, records, page).number()
+    match phases_replay::replay_three_phase(&index, records, page) {
+        Ok(()) => 0,
+        Err(error) => error.number(),
+    }
 }
 
 // Whether `call_on_page` can read a page: 9 if it is not of 586 bytes, 10 if a pair differs, 11 if its

@@ -1,5 +1,6 @@
 -- Demand 3 of what `replay_three_phase` leaves: an input that it takes is a trace, and the buffer then begins with the page of the trace's account.
 use Rattle.base.proofs.Prelude.{◌≡◌, refl, sym, ap, ◌∙◌, true, List, ℕ, eqb, ltb, length, drop, take_at, every}
+use Rattle.std.specs.Prelude.{Ok}
 use Rattle.codec.specs.Lawful.{Bytes}
 use Rattle.events.specs.Table.{EventRow, lawful}
 use Rattle.calls.specs.declared.Answer.TheVariants as answer
@@ -10,7 +11,6 @@ use Rattle.phases_page.specs.AccountPage.{three_phase_account_page}
 use Rattle.phases_page.specs.Demand3.{ThreePhaseTrace}
 use Rattle.phases_page.proofs.RoundTrip.{page_length_lem}
 use Rattle.phases_page.proofs.Traces as traces
-use Rattle.replay.specs.declared.Replayed.TheVariants.{Written}
 use Rattle.replay.proofs.Answers.{started}
 use Rattle.phases_replay.specs.Replay.{three_phase_record_length, three_phase_first_in, three_phase_later_in, three_phase_settings_in, three_phase_calls_in}
 use Rattle.phases_replay.specs.Replay.{three_phase_start_of, three_phase_account_in, three_phase_replay_answer, three_phase_replayed}
@@ -19,7 +19,7 @@ use Rattle.phases_replay.proofs.Records.{record_lawful}
 use Rattle.phases_replay.proofs.Ranges.{settings_range}
 use Rattle.phases_replay.proofs.Runs.{in_range, printed}
 
-module _ (s out : List ℕ) (bytes : Bytes s) (e : three_phase_replay_answer s out ≡ Written) where
+module _ (s out : List ℕ) (bytes : Bytes s) (e : three_phase_replay_answer s out ≡ Ok tt) where
   accepted : (three_phase_start_of (three_phase_first_in s)).answer ≡ answer.Accepted
   unfolding three_phase_replay_answer
   accepted =
@@ -47,7 +47,7 @@ module _ (s out : List ℕ) (bytes : Bytes s) (e : three_phase_replay_answer s o
         (ap length (printed s bytes accepted rows table) ∙ page_length_lem (three_phase_record_of (three_phase_holding (three_phase_account_in rows s)))))
 
 pub compared : (p q : List EventRow) → every lawful p ≡ true → every lawful q ≡ true → (s t out out' : List ℕ) → Bytes s → Bytes t
-    → three_phase_replay_answer s out ≡ Written → three_phase_replay_answer t out' ≡ Written → ThreePhaseComparedInputs p q s t out out'
+    → three_phase_replay_answer s out ≡ Ok tt → three_phase_replay_answer t out' ≡ Ok tt → ThreePhaseComparedInputs p q s t out out'
 unfolding trace three_phase_account_in
 compared p q lp lq s t out out' bs bt es et =
     let first = page s out bs es p lp in

@@ -27,9 +27,7 @@ use Rattle.phases_meter.proofs.Simulates.{simulates, reached_sound}
 use Rattle.phases_page.specs.Layout.{three_phase_size, three_phase_page_of, three_phase_write_answer, three_phase_written}
 use Rattle.phases_page.specs.AccountPage.{three_phase_account_page}
 use Rattle.phases_page.proofs.Printed.{list_written}
-use Rattle.replay.specs.declared.Replayed.{Replayed}
-use Rattle.replay.specs.declared.Replayed.TheVariants.{Written}
-use Rattle.replay.specs.Replay.{unless_refused, end_of, buffer_after}
+use Rattle.replay.specs.Replay.{Replayed, unless_refused, end_of, buffer_after}
 use Rattle.replay.proofs.Lists.{decs_next, decs_end, all_valid_lem}
 use Rattle.replay.proofs.Answers.{writer_end, buffer_end}
 use Rattle.phases_replay.specs.Input.{three_phase_record_format}
@@ -141,7 +139,7 @@ module _ (s : List ℕ) (bytes : Bytes s) (started : (three_phase_start_of (thre
       abbrev end : Replayed
       end = end_of three_phase_record_length three_phase_size s out
 
-      writer_answer : unless_refused (three_phase_write_answer rows (three_phase_last_meter rows s) out) Written ≡ end
+      writer_answer : unless_refused (three_phase_write_answer rows (three_phase_last_meter rows s) out) (Ok tt) ≡ end
       unfolding three_phase_write_answer
       writer_answer = rw (last_sound, whole) (writer_end (leb three_phase_size (length out)))
 
@@ -176,7 +174,7 @@ module _ (rows : List EventRow) (table : every lawful rows ≡ true) {s out : Li
     (bytes : Bytes s) (accepted : o.answer ≡ answer.Accepted) (whole : eqb (length s % three_phase_record_length) 0 ≡ true) where
   pub ended : (m : ThreePhaseMeter) (a : Answer) (page : List ℕ) → m ≡ three_phase_meter_after rows o.meter (three_phase_later_in s)
       → (a ≡ three_phase_write_answer rows m out) × (page ≡ three_phase_written rows m out)
-      → (unless_refused a Written ≡ three_phase_replay_answer s out) × (page ≡ three_phase_replayed rows s out)
+      → (unless_refused a (Ok tt) ≡ three_phase_replay_answer s out) × (page ≡ three_phase_replayed rows s out)
   ended m a page run wrote =
       let started : (three_phase_start_of (three_phase_first_in s)).answer ≡ answer.Accepted =
       sym (ap (λ (o : ThreePhaseOutcome). o.answer) b.start) ∙ accepted in

@@ -1,11 +1,11 @@
 -- The records of a three-phase input, and each answer to one.
-use Rattle.std.specs.Prelude.{◌≡◌, List, [], ◌∷◌, ◌++◌, ℕ, pos, negsuc, replicate}
+use Rattle.std.specs.Prelude.{◌≡◌, List, [], ◌∷◌, ◌++◌, ℕ, pos, negsuc, replicate, Ok, Err}
 use Rattle.codec.specs.BigEndian.{be}
 use Rattle.phases.specs.declared.ThreePhaseCall.TheVariants.{Sample, ManualReconnect, SetMode, SetLimiter, Script}
 use Rattle.phases.specs.Calls.{three_phase_command_of}
 use Rattle.phases.specs.Laws.{naming}
 use Rattle.phases.specs.Examples.{settings_with}
-use Rattle.replay.specs.declared.Replayed.TheVariants.{Written, Empty, Bad, Short, Refused}
+use Rattle.replay.specs.declared.ReplayError.TheVariants.{Empty, Bad, Short, Refused}
 use Rattle.phases_replay.specs.Replay.{three_phase_settings_in, three_phase_calls_in, three_phase_replay_answer}
 
 -- the bytes of a fresh of that mode, first threshold and Over, and no call
@@ -26,14 +26,14 @@ pub record Examples : Type 0 where
   -- '.. A3's profile and area aren't offered here, its kinds get 13 ..': such a record names no call, nor does a second fresh
   pub no_kind : three_phase_calls_in (naming 0 1 ∷ naming 16 1 ∷ naming 17 1 ∷ naming 255 1 ∷ []) ≡ []
   -- each answer, in the order of the tests: a cut first record is short, whatever its kind
-  pub empty : three_phase_replay_answer [] [] ≡ Empty
-  pub first_cut : three_phase_replay_answer (replicate 32 1) [] ≡ Short
-  pub bad : three_phase_replay_answer (replicate 33 1) [] ≡ Bad
+  pub empty : three_phase_replay_answer [] [] ≡ Err Empty
+  pub first_cut : three_phase_replay_answer (replicate 32 1) [] ≡ Err Short
+  pub bad : three_phase_replay_answer (replicate 33 1) [] ≡ Err Bad
   -- a refused fresh ends the run before a cut record is seen: 'mode above 6', '.. 4 if one is negative', 'Over or Under out of range'
-  pub mode_refused : three_phase_replay_answer (fresh_only 7 4294967295 0 ++ (1 ∷ [])) [] ≡ Refused 1
-  pub threshold_refused : three_phase_replay_answer (fresh_only 5 4294967295 0 ++ (1 ∷ [])) [] ≡ Refused 4
-  pub duration_refused : three_phase_replay_answer (fresh_only 5 100 0 ++ (1 ∷ [])) [] ≡ Refused 5
-  pub cut : three_phase_replay_answer (fresh_only 5 100 2 ++ (1 ∷ [])) [] ≡ Short
+  pub mode_refused : three_phase_replay_answer (fresh_only 7 4294967295 0 ++ (1 ∷ [])) [] ≡ Err (Refused 1)
+  pub threshold_refused : three_phase_replay_answer (fresh_only 5 4294967295 0 ++ (1 ∷ [])) [] ≡ Err (Refused 4)
+  pub duration_refused : three_phase_replay_answer (fresh_only 5 100 0 ++ (1 ∷ [])) [] ≡ Err (Refused 5)
+  pub cut : three_phase_replay_answer (fresh_only 5 100 2 ++ (1 ∷ [])) [] ≡ Err Short
   -- '.. in a page of 586'
-  pub small_buffer : three_phase_replay_answer (fresh_only 5 100 2) (replicate 585 0) ≡ Refused 8
-  pub taken : three_phase_replay_answer (fresh_only 5 100 2) (replicate 586 0) ≡ Written
+  pub small_buffer : three_phase_replay_answer (fresh_only 5 100 2) (replicate 585 0) ≡ Err (Refused 8)
+  pub taken : three_phase_replay_answer (fresh_only 5 100 2) (replicate 586 0) ≡ Ok tt

@@ -1,5 +1,5 @@
 -- What holds of the records of a three-phase input and of its run: what a reader wants beside the definitions.
-use Rattle.std.specs.Prelude.{◌≡◌, true, List, ◌∷◌, ℕ, take}
+use Rattle.std.specs.Prelude.{◌≡◌, true, List, ◌∷◌, ℕ, take, Ok}
 use Rattle.base.specs.Tests.{every}
 use Rattle.codec.specs.Format.{encs, AllHold}
 use Rattle.codec.specs.Lawful.{Bytes, Lawful}
@@ -9,7 +9,6 @@ use Rattle.phases.specs.declared.ThreePhaseCommand.{ThreePhaseCommand}
 use Rattle.phases_meter.specs.State.{three_phase_record_of}
 use Rattle.phases_meter.specs.Holding.{three_phase_holding}
 use Rattle.phases_page.specs.AccountPage.{three_phase_page_length, three_phase_account_page}
-use Rattle.replay.specs.declared.Replayed.TheVariants.{Written}
 use Rattle.phases_replay.specs.Input.{three_phase_record_format}
 use Rattle.phases_replay.specs.Replay.{three_phase_first_in, three_phase_later_in, three_phase_start_of, three_phase_last_meter, three_phase_account_in}
 use Rattle.phases_replay.specs.Replay.{three_phase_replay_answer, three_phase_replayed}
@@ -41,4 +40,4 @@ pub record Laws : Type 0 where
       → three_phase_last_meter rows s ≡ three_phase_record_of (three_phase_holding (three_phase_account_in rows s))
   -- 'the page after the one equals the page after the other exactly when the accounts of the two histories are equal', from bytes to page
   pub compared : (p q : List EventRow) → every lawful p ≡ true → every lawful q ≡ true → (s t out out' : List ℕ) → Bytes s → Bytes t
-      → three_phase_replay_answer s out ≡ Written → three_phase_replay_answer t out' ≡ Written → ThreePhaseComparedInputs p q s t out out'
+      → three_phase_replay_answer s out ≡ Ok tt → three_phase_replay_answer t out' ≡ Ok tt → ThreePhaseComparedInputs p q s t out out'

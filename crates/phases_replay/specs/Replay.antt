@@ -16,9 +16,8 @@ use Rattle.phases_meter.specs.Machine.{three_phase_record_after}
 use Rattle.phases_meter.specs.Settings.{three_phase_settings_of, three_phase_fresh_answer}
 use Rattle.phases_meter.specs.Fresh.{three_phase_fresh_of}
 use Rattle.phases_page.specs.AccountPage.{three_phase_page_length, three_phase_account_page}
-use Rattle.replay.specs.declared.Replayed.{Replayed}
-use Rattle.replay.specs.declared.Replayed.TheVariants.{Empty, Bad, Short}
-use Rattle.replay.specs.Replay.{unless_refused, end_of, buffer_after}
+use Rattle.replay.specs.declared.ReplayError.TheVariants.{Empty, Bad, Short}
+use Rattle.replay.specs.Replay.{Replayed, unless_refused, end_of, buffer_after}
 use Rattle.phases_replay.specs.Input.{three_phase_record_format}
 
 -- ---- the records of an input
@@ -82,9 +81,9 @@ unfoldable pub three_phase_replay_answer : List ℕ → List ℕ → Replayed
 three_phase_replay_answer s out =
     let first = three_phase_first_in s in
     let w = three_phase_record_length in
-    cond (eqb (length s) 0) Empty
-    (cond (ltb (length s) w) Short
-    (cond (eqb first.kind 0) (unless_refused (three_phase_fresh_answer (three_phase_settings_in first)) (end_of w three_phase_page_length s out)) Bad))
+    cond (eqb (length s) 0) (Err Empty)
+    (cond (ltb (length s) w) (Err Short)
+    (cond (eqb first.kind 0) (unless_refused (three_phase_fresh_answer (three_phase_settings_in first)) (end_of w three_phase_page_length s out)) (Err Bad)))
 
 -- 'Each page holds its own account, byte for byte by the layout'; the bytes past the page stay, and every byte where the input is not taken
 unfoldable pub three_phase_replayed : List EventRow → List ℕ → List ℕ → List ℕ

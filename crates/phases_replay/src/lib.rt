@@ -10,43 +10,39 @@ ghost use Rattle.phases_replay.specs.Examples.{Examples};
 mod input;
 mod run;
 
-use calls::Answer;
-use replay::Replayed;
+use replay::ReplayError;
 
 // The length of a record in bytes. A record is a command, the first one of kind 0 and fresh.
 pub const THREE_PHASE_RECORD_LEN: usize = 33;
 
 // Runs a whole input with an event table, and writes the page of its history into the first 586 bytes
-// of `page`. Every byte of `page` stays where the answer is not Written.
-pub fn replay_three_phase(table: &[u16; 256], records: &[u8], page: &mut [u8]) -> Replayed
+// of `page`. Every byte of `page` stays where the answer is an error.
+pub fn replay_three_phase(
+    table: &[u16; 256],
+    records: &[u8],
+    page: &mut [u8],
+) -> Result<(), ReplayError>
     ensures value { (result ≡ three_phase_replay_answer records.now page.old) × (page.new ≡ three_phase_replayed (table_in table.now) records.now page.old) }
     ensures laws { Laws }
     ensures examples { Examples }
 {
     if records.len() == 0 {
-        return Replayed::Empty;
+        return Err(ReplayError::Empty);
     }
     if records.len() < THREE_PHASE_RECORD_LEN {
-        return Replayed::Short;
+        return Err(ReplayError::Short);
     }
     let first = input::whole_record_at(records, 0);
     if first.kind != 0 {
-        return Replayed::Bad;
+        return Err(ReplayError::Bad);
     }
     let fresh = run::start(first);
-    let answer = fresh.answer;
-    if let Answer::Refused(number) = answer {
-        return Replayed::Refused(number);
-    }
+    replay::accepted(fresh.answer)?;
     // A refused fresh ends the run before it comes to a cut record: this test stands behind it.
     if records.len() % THREE_PHASE_RECORD_LEN != 0 {
-        return Replayed::Short;
+        return Err(ReplayError::Short);
     }
     let last = run::run_from(table, fresh.meter, records, 1);
-    let written = writer::write_three_phase_page(last, table, page);
-    match written {
-        Answer::Accepted => Replayed::Written,
-        // Only a short buffer: whatever the calls were, they leave the meter sound.
-        Answer::Refused(number) => Replayed::Refused(number),
-    }
+    // Only a short buffer is refused: whatever the calls were, they leave the meter sound.
+    replay::accepted(writer::write_three_phase_page(last, table, page))
 }

@@ -144,7 +144,10 @@ pub extern "C" fn pillar_replay(records: &[u8], table: &[u8], page: &mut [u8]) -
     ensures numbers { ReplayNumbers }
 {
     let index = tables::index_of(table);
-    replay::replay(&index, records, page).number()
+    match replay::replay(&index, records, page) {
+        Ok(()) => 0,
+        Err(error) => error.number(),
+    }
 }
 
 // Whether `pillar_call` can read a page: 9 if it is not of 599 bytes, 10 if a pair differs, 11 if its

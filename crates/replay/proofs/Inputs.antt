@@ -9,6 +9,7 @@ use lib.Dec.{eqb, leb, ltb}
 use lib.ListN.{length, drop}
 use lib.Seq.{take_at}
 use borrow.Author.Tests.{leb-true}
+use Rattle.std.specs.Prelude.{Ok}
 use Rattle.base.specs.Tests.{every}
 use Rattle.base.proofs.Bools.{and_left, and_right}
 use Rattle.codec.specs.BigEndian.{be}
@@ -29,7 +30,6 @@ use Rattle.page.specs.AccountPage.{account_page}
 use Rattle.page.specs.Demand3.{Trace}
 use Rattle.page.proofs.RoundTrip.{page_length_lem}
 use Rattle.page.proofs.Traces as traces
-use Rattle.replay.specs.declared.Replayed.TheVariants.{Written}
 use Rattle.replay.specs.Replay.{record_length, first_in, later_in, settings_in, calls_in, start_of, account_in, replay_answer, replayed}
 use Rattle.replay.specs.Laws.{page_in, ComparedInputs, switch_in}
 use Rattle.replay.proofs.Records.{record_lawful}
@@ -50,7 +50,7 @@ sound_switch rows a e =
     let control = control_sound (holding a).values (and_left (sound_values (holding a).values) _ e) in
     leb-true a.switch 2 (and_right (leb a.mode 6) _ (and_left (leb a.mode 6 && leb a.switch 2) _ control))
 
-module _ (s out : List ℕ) (bytes : Bytes s) (e : replay_answer s out ≡ Written) where
+module _ (s out : List ℕ) (bytes : Bytes s) (e : replay_answer s out ≡ Ok tt) where
   accepted : (start_of (first_in s)).answer ≡ answer.Accepted
   unfolding replay_answer
   accepted = started (eqb (length s) 0) (ltb (length s) record_length) (eqb (first_in s).kind 0) (start_of (first_in s)).answer _ e
@@ -83,7 +83,7 @@ module _ (s out : List ℕ) (bytes : Bytes s) (e : replay_answer s out ≡ Writt
         remote_disconnect_holds.one_phase_holds rows (settings_in (first_in s)) (calls_in (later_in s)) v d (sym (ap switch_in page ∙ shown) ∙ q)
 
 pub compared : (p q : List EventRow) → every lawful p ≡ true → every lawful q ≡ true → (s t out out' : List ℕ) → Bytes s → Bytes t
-    → replay_answer s out ≡ Written → replay_answer t out' ≡ Written → ComparedInputs p q s t out out'
+    → replay_answer s out ≡ Ok tt → replay_answer t out' ≡ Ok tt → ComparedInputs p q s t out out'
 unfolding trace account_in
 compared p q lp lq s t out out' bs bt es et =
     let first = page s out bs es p lp in

@@ -18,9 +18,9 @@ use Rattle.limiter.specs.Limiter.{is_duration}
 use Rattle.machine.specs.Settings.{limits_answer}
 use Rattle.meter.specs.Settings.{fresh_answer}
 use Rattle.page.specs.AccountPage.{page_length}
-use Rattle.replay.specs.declared.Replayed.{Replayed}
-use Rattle.replay.specs.declared.Replayed.TheVariants as ended
-use Rattle.replay.specs.Replay.{record_length, first_in, settings_in, unless_refused, replay_answer}
+use Rattle.std.specs.Prelude.{Ok, Err}
+use Rattle.replay.specs.declared.ReplayError.TheVariants as error
+use Rattle.replay.specs.Replay.{record_length, first_in, settings_in, Replayed, unless_refused, replay_answer}
 use Rattle.replay.specs.Numbers.{number_or, if_accepted, replay_number, NumbersTell, ReplayNumbers}
 
 -- the writer's answer, of a record that is sound or not and a buffer that has room or not
@@ -103,33 +103,30 @@ fresh_by mode thresholds durations = cond mode (cond thresholds (cond durations 
 
 -- an end is written or refused with 8, or the input is short
 abbrev end_by : Bool → Bool → Replayed
-end_by even fits = cond even (cond fits ended.Written (ended.Refused 8)) ended.Short
+end_by even fits = cond even (cond fits (Ok tt) (Err (error.Refused 8))) (Err error.Short)
 
 abbrev is_written : Replayed → Bool
-is_written ended.Written = true
-is_written ended.Empty = false
-is_written ended.Bad = false
-is_written ended.Short = false
-is_written (ended.Refused n) = false
+is_written (Ok u) = true
+is_written (Err e) = false
 
-not_written : (r : Replayed) (n : ℕ) → replay_number r ≡ suc n → is_written r ≡ false → (replay_number r ≡ 0) ↔ (r ≡ ended.Written)
+not_written : (r : Replayed) (n : ℕ) → replay_number r ≡ suc n → is_written r ≡ false → (replay_number r ≡ 0) ↔ (r ≡ Ok tt)
 not_written r n e other = (λ z. absurd (omega arith), λ z. absurd (false≢true (sym other ∙ ap is_written z)))
 
 pub zero_exactly : (empty short fresh mode thresholds durations even fits : Bool)
-    → let r = cond empty ended.Empty (cond short ended.Short (cond fresh (unless_refused (fresh_by mode thresholds durations) (end_by even fits)) ended.Bad)) in
-    (replay_number r ≡ 0) ↔ (r ≡ ended.Written)
-zero_exactly true short fresh mode thresholds durations even fits = not_written ended.Empty 99 refl refl
-zero_exactly false true fresh mode thresholds durations even fits = not_written ended.Short 101 refl refl
-zero_exactly false false false mode thresholds durations even fits = not_written ended.Bad 100 refl refl
-zero_exactly false false true false thresholds durations even fits = not_written (ended.Refused 1) 0 refl refl
-zero_exactly false false true true false durations even fits = not_written (ended.Refused 4) 3 refl refl
-zero_exactly false false true true true false even fits = not_written (ended.Refused 5) 4 refl refl
-zero_exactly false false true true true true false fits = not_written ended.Short 101 refl refl
-zero_exactly false false true true true true true false = not_written (ended.Refused 8) 7 refl refl
+    → let r = cond empty (Err error.Empty) (cond short (Err error.Short) (cond fresh (unless_refused (fresh_by mode thresholds durations) (end_by even fits)) (Err error.Bad))) in
+    (replay_number r ≡ 0) ↔ (r ≡ Ok tt)
+zero_exactly true short fresh mode thresholds durations even fits = not_written (Err error.Empty) 99 refl refl
+zero_exactly false true fresh mode thresholds durations even fits = not_written (Err error.Short) 101 refl refl
+zero_exactly false false false mode thresholds durations even fits = not_written (Err error.Bad) 100 refl refl
+zero_exactly false false true false thresholds durations even fits = not_written (Err (error.Refused 1)) 0 refl refl
+zero_exactly false false true true false durations even fits = not_written (Err (error.Refused 4)) 3 refl refl
+zero_exactly false false true true true false even fits = not_written (Err (error.Refused 5)) 4 refl refl
+zero_exactly false false true true true true false fits = not_written (Err error.Short) 101 refl refl
+zero_exactly false false true true true true true false = not_written (Err (error.Refused 8)) 7 refl refl
 zero_exactly false false true true true true true true = (λ e. refl, λ e. refl)
 
 pub numbers_tell : (answer_of : List ℕ → List ℕ → Replayed)
-    → ((s out : List ℕ) → (replay_number (answer_of s out) ≡ 0) ↔ (answer_of s out ≡ ended.Written)) → NumbersTell answer_of
+    → ((s out : List ℕ) → (replay_number (answer_of s out) ≡ 0) ↔ (answer_of s out ≡ Ok tt)) → NumbersTell answer_of
 numbers_tell answer_of zero = record { zero_written = zero; refusal_number = λ s out n e. ap replay_number e; others = refl }
 
 pub replay_numbers : ReplayNumbers

@@ -33,11 +33,9 @@ use Rattle.meter.proofs.Laws.{laws}
 use Rattle.page.specs.Layout.{size, page_of, write_answer, written}
 use Rattle.page.specs.AccountPage.{account_page}
 use Rattle.page.proofs.Printed.{list_written}
-use Rattle.replay.specs.declared.Replayed.{Replayed}
-use Rattle.replay.specs.declared.Replayed.TheVariants.{Written}
 use Rattle.replay.specs.Input.{record_format}
 use Rattle.replay.specs.Replay.{record_length, first_in, records_from, later_in, settings_in, with_call, calls_in, start_of, next_of, meter_after, last_meter}
-use Rattle.replay.specs.Replay.{account_in, unless_refused, end_of, replay_answer, buffer_after, replayed}
+use Rattle.replay.specs.Replay.{account_in, Replayed, unless_refused, end_of, replay_answer, buffer_after, replayed}
 use Rattle.replay.proofs.Lists.{decs_next, decs_end, all_valid_lem}
 use Rattle.replay.proofs.Records.{record_lawful}
 use Rattle.replay.proofs.Answers.{writer_end, buffer_end}
@@ -140,7 +138,7 @@ module _ (s : List ℕ) (bytes : Bytes s) (started : (start_of (first_in s)).ans
     -- ---- so the writer answers and writes what becomes of the input
 
     module _ (out : List ℕ) (whole : eqb (length s % record_length) 0 ≡ true) where
-      writer_answer : unless_refused (write_answer rows (last_meter rows s) out) Written ≡ end_of record_length size s out
+      writer_answer : unless_refused (write_answer rows (last_meter rows s) out) (Ok tt) ≡ end_of record_length size s out
       unfolding write_answer
       writer_answer = rw (last_sound, whole) (writer_end (leb size (length out)))
 
@@ -170,7 +168,7 @@ begun s out o some whole fresh e = record { start = e; answer = rw (some, whole,
 module _ (rows : List EventRow) (table : every lawful rows ≡ true) {s out : List ℕ} {o : Outcome} (b : Begun s out o)
     (bytes : Bytes s) (accepted : o.answer ≡ answer.Accepted) (whole : eqb (length s % record_length) 0 ≡ true) where
   pub ended : (m : Meter) (a : Answer) (page : List ℕ) → m ≡ meter_after rows o.meter (later_in s) → (a ≡ write_answer rows m out) × (page ≡ written rows m out)
-      → (unless_refused a Written ≡ replay_answer s out) × (page ≡ replayed rows s out)
+      → (unless_refused a (Ok tt) ≡ replay_answer s out) × (page ≡ replayed rows s out)
   ended m a page run wrote =
       let started : (start_of (first_in s)).answer ≡ answer.Accepted = sym (ap (λ (o : Outcome). o.answer) b.start) ∙ accepted in
       let last : m ≡ last_meter rows s = run ∙ ap (λ (o : Outcome). meter_after rows o.meter (later_in s)) b.start in

@@ -1,10 +1,10 @@
 -- Document 01's worked example by its records, numbers and a line as they are printed, and each answer to an input.
-use Rattle.std.specs.Prelude.{◌≡◌, List, [], ◌∷◌, ◌++◌, ℕ, negsuc, replicate}
+use Rattle.std.specs.Prelude.{◌≡◌, List, [], ◌∷◌, ◌++◌, ℕ, negsuc, replicate, Ok, Err}
 use Rattle.codec.specs.BigEndian.{be}
 use Rattle.calls.specs.declared.Command.{Command}
 use Rattle.calls.specs.Calls.{command_of}
 use Rattle.history.specs.Examples.{example_settings, example_calls}
-use Rattle.replay.specs.declared.Replayed.TheVariants.{Written, Empty, Bad, Short, Refused}
+use Rattle.replay.specs.declared.ReplayError.TheVariants.{Empty, Bad, Short, Refused}
 use Rattle.replay.specs.Replay.{first_in, settings_in, calls_in, replay_answer}
 use Rattle.replay.specs.Listing.{decimal, line_bytes}
 
@@ -47,11 +47,11 @@ pub record Examples : Type 0 where
   -- '15 2 1 2', and the end of the line
   pub line : line_bytes 15 2 1 2 ≡ 49 ∷ 53 ∷ 32 ∷ 50 ∷ 32 ∷ 49 ∷ 32 ∷ 50 ∷ 10 ∷ []
   -- each answer, in the order of the tests: a cut first record is short, whatever its kind
-  pub empty : replay_answer [] [] ≡ Empty
-  pub first_cut : replay_answer (replicate 20 1) [] ≡ Short
-  pub bad : replay_answer (replicate 21 1) [] ≡ Bad
+  pub empty : replay_answer [] [] ≡ Err Empty
+  pub first_cut : replay_answer (replicate 20 1) [] ≡ Err Short
+  pub bad : replay_answer (replicate 21 1) [] ≡ Err Bad
   -- a refused fresh ends the run before a cut record is seen
-  pub refused : replay_answer (only 7 ++ (1 ∷ [])) [] ≡ Refused 1
-  pub cut : replay_answer (only 5 ++ (1 ∷ [])) [] ≡ Short
-  pub small_buffer : replay_answer (only 5) (replicate 598 0) ≡ Refused 8
-  pub taken : replay_answer (only 5) (replicate 599 0) ≡ Written
+  pub refused : replay_answer (only 7 ++ (1 ∷ [])) [] ≡ Err (Refused 1)
+  pub cut : replay_answer (only 5 ++ (1 ∷ [])) [] ≡ Err Short
+  pub small_buffer : replay_answer (only 5) (replicate 598 0) ≡ Err (Refused 8)
+  pub taken : replay_answer (only 5) (replicate 599 0) ≡ Ok tt

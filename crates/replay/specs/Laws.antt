@@ -1,5 +1,5 @@
 -- What holds of the input's records, of its run and of the listing's lines: what a reader wants beside the definitions.
-use Rattle.std.specs.Prelude.{◌≡◌, true, List, [], ◌∷◌, ◌++◌, ℕ, ◌/◌, ◌%◌, ◌^◌, ◌<◌, ◌≤◌, length, take, drop, get_or}
+use Rattle.std.specs.Prelude.{◌≡◌, true, List, [], ◌∷◌, ◌++◌, ℕ, ◌/◌, ◌%◌, ◌^◌, ◌<◌, ◌≤◌, length, take, drop, get_or, Ok}
 use Rattle.base.specs.Tests.{every}
 use Rattle.codec.specs.Format.{encs, AllHold}
 use Rattle.codec.specs.Lawful.{Bytes, Lawful}
@@ -10,7 +10,6 @@ use Rattle.history.specs.RemoteDisconnect.{HoldsOnePhase}
 use Rattle.meter.specs.State.{record_of}
 use Rattle.meter.specs.Holding.{holding}
 use Rattle.page.specs.AccountPage.{page_length, account_page}
-use Rattle.replay.specs.declared.Replayed.TheVariants.{Written}
 use Rattle.replay.specs.Input.{record_format}
 use Rattle.replay.specs.Replay.{first_in, later_in, settings_in, calls_in, start_of, last_meter, account_in, replay_answer, replayed}
 use Rattle.replay.specs.Listing.{digit_byte, decimal, value_behind, line_bytes, at_end}
@@ -43,9 +42,9 @@ pub record Laws : Type 0 where
       → last_meter rows s ≡ record_of (holding (account_in rows s))
   -- 'the page after the one equals the page after the other exactly when the accounts of the two histories are equal', from bytes to page
   pub compared : (p q : List EventRow) → every lawful p ≡ true → every lawful q ≡ true → (s t out out' : List ℕ) → Bytes s → Bytes t
-      → replay_answer s out ≡ Written → replay_answer t out' ≡ Written → ComparedInputs p q s t out out'
+      → replay_answer s out ≡ Ok tt → replay_answer t out' ≡ Ok tt → ComparedInputs p q s t out out'
   -- document 02, A7, of the page that `replay` wrote: '.. supply is on at the end ..' where it says Connected
-  pub disconnect_holds : (rows : List EventRow) → every lawful rows ≡ true → (s out : List ℕ) → Bytes s → replay_answer s out ≡ Written
+  pub disconnect_holds : (rows : List EventRow) → every lawful rows ≡ true → (s out : List ℕ) → Bytes s → replay_answer s out ≡ Ok tt
       → HoldsOnePhase (0 ∷ 2 ∷ 4 ∷ []) rows (settings_in (first_in s)) (calls_in (later_in s)) (switch_in (page_in rows s out))
   -- the digits of a number: itself below ten; else those of its quotient by ten, and the remainder's behind them
   pub one_digit : (n : ℕ) → n < 10 → decimal n ≡ digit_byte n ∷ []

@@ -8,7 +8,7 @@ use Rattle.calls.specs.declared.Answer.TheVariants as answer
 use Rattle.calls.specs.declared.Command.{Command}
 use Rattle.calls.specs.Calls.{ReadCall}
 use Rattle.calls.specs.declared.CommandError.TheVariants.{NoKind}
-use Rattle.std.specs.Prelude.{Ok, Err}
+use Rattle.std.specs.Prelude.{Result, Ok, Err}
 use Rattle.calls.specs.Calls.{signed_of, call_of}
 use Rattle.history.specs.OnePhase.{Fresh, Account, account}
 use Rattle.meter.specs.declared.Meter.{Meter}
@@ -17,8 +17,8 @@ use Rattle.meter.specs.Machine.{commanded, record_after}
 use Rattle.meter.specs.Settings.{settings_of, fresh_answer}
 use Rattle.meter.specs.Fresh.{fresh_of}
 use Rattle.page.specs.AccountPage.{page_length, account_page}
-use Rattle.replay.specs.declared.Replayed.{Replayed}
-use Rattle.replay.specs.declared.Replayed.TheVariants.{Written, Empty, Bad, Short, Refused}
+use Rattle.replay.specs.declared.ReplayError.{ReplayError}
+use Rattle.replay.specs.declared.ReplayError.TheVariants.{Empty, Bad, Short, Refused}
 use Rattle.replay.specs.Input.{record_format}
 
 -- ---- the records of an input
@@ -78,29 +78,30 @@ last_meter rows s = meter_after rows (start_of (first_in s)).meter (later_in s)
 unfoldable pub account_in : List EventRow → List ℕ → Account
 account_in rows s = account rows (settings_in (first_in s)) (calls_in (later_in s))
 
+-- what becomes of an input: the page of its history is written, or why it is not
+abbrev pub Replayed : Type 0
+Replayed = Result (Unit {0}) ReplayError
+
 -- a refusal, or else what follows
 abbrev pub unless_refused : Answer → Replayed → Replayed
 unless_refused answer.Accepted r = r
-unless_refused (answer.Refused n) r = Refused n
+unless_refused (answer.Refused n) r = Err (Refused n)
 
 -- once fresh is accepted, with records of w bytes and a page of n: 'a cut record .. writes `short` and ends'; 'writer | 8 | buffer under 558 bytes', now n
 abbrev pub end_of : ℕ → ℕ → List ℕ → List ℕ → Replayed
-end_of w n s out = cond (eqb (length s % w) 0) (cond (leb n (length out)) Written (Refused 8)) Short
+end_of w n s out = cond (eqb (length s % w) 0) (cond (leb n (length out)) (Ok tt) (Err (Refused 8))) (Err Short)
 
 -- 'Empty input writes nothing'; 'a cut record, the first too, writes `short`'; 'kind 0 .., else one line `bad`'; 'A refused fresh ends the run'
 unfoldable pub replay_answer : List ℕ → List ℕ → Replayed
 replay_answer s out =
-    cond (eqb (length s) 0) Empty
-    (cond (ltb (length s) record_length) Short
-    (cond (eqb (first_in s).kind 0) (unless_refused (fresh_answer (settings_in (first_in s))) (end_of record_length page_length s out)) Bad))
+    cond (eqb (length s) 0) (Err Empty)
+    (cond (ltb (length s) record_length) (Err Short)
+    (cond (eqb (first_in s).kind 0) (unless_refused (fresh_answer (settings_in (first_in s))) (end_of record_length page_length s out)) (Err Bad)))
 
 -- 'The writer leaves bytes past 558', now past n, the page's length; whatever else becomes of an input leaves every byte
 abbrev pub buffer_after : ℕ → Replayed → List ℕ → List ℕ → List ℕ
-buffer_after n Written page out = page ++ drop n out
-buffer_after n Empty page out = out
-buffer_after n Bad page out = out
-buffer_after n Short page out = out
-buffer_after n (Refused k) page out = out
+buffer_after n (Ok u) page out = page ++ drop n out
+buffer_after n (Err e) page out = out
 
 -- 'Each page holds its own account, byte for byte by the layout'
 unfoldable pub replayed : List EventRow → List ℕ → List ℕ → List ℕ

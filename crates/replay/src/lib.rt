@@ -2,10 +2,10 @@
 // drive, the lines of its listing; and a whole input at once, from its bytes to the page.
 #![tactic(auto)]
 
-ghost use Rattle.std.specs.Prelude.{◌≡◌};
+ghost use Rattle.std.specs.Prelude.{◌≡◌, Ok};
 ghost use Rattle.tables.specs.Index.{table_in};
-ghost use Rattle.replay.specs.Replay.{replay_answer, replayed};
-ghost use Rattle.replay.specs.Numbers.{replay_number};
+ghost use Rattle.replay.specs.Replay.{unless_refused, replay_answer, replayed};
+ghost use Rattle.replay.specs.Numbers.{error_number};
 ghost use Rattle.replay.specs.Laws.{Laws};
 ghost use Rattle.replay.specs.Examples.{Examples};
 ghost use Rattle.history.specs.Laws.{Laws as AccountLaws};
@@ -34,11 +34,9 @@ pub struct ListingLine {
     pub start: usize,
 }
 
-// What became of an input.
+// Why the page of an input's history is not written.
 #[derive(Clone, Copy)]
-pub enum Replayed {
-    // The page of its history is written.
-    Written,
+pub enum ReplayError {
     Empty,
     // The first record is not of kind 0.
     Bad,
@@ -48,24 +46,33 @@ pub enum Replayed {
     Refused(u8),
 }
 
-impl Replayed {
-    // 0, the number of a refusal, or one above every refusal's for what document 01 prints as words.
+impl ReplayError {
+    // The number of a refusal, or one above every refusal's for what document 01 prints as words.
     pub fn number(self) -> u32
-        ensures { result ≡ replay_number self }
+        ensures { result ≡ error_number self }
     {
         match self {
-            Replayed::Written => 0,
-            Replayed::Empty => 100,
-            Replayed::Bad => 101,
-            Replayed::Short => 102,
-            Replayed::Refused(number) => number as u32,
+            ReplayError::Empty => 100,
+            ReplayError::Bad => 101,
+            ReplayError::Short => 102,
+            ReplayError::Refused(number) => u32::from(number),
         }
     }
 }
 
+// A refusal of the meter or of the writer ends a run with its number.
+pub fn accepted(answer: Answer) -> Result<(), ReplayError>
+    ensures { result ≡ unless_refused answer (Ok tt) }
+{
+    match answer {
+        Answer::Accepted => Ok(()),
+        Answer::Refused(number) => Err(ReplayError::Refused(number)),
+    }
+}
+
 // Runs a whole input with an event table, and writes the page of its history into the first 599 bytes
-// of `page`. Every byte of `page` stays where the answer is not Written.
-pub fn replay(table: &[u16; 256], records: &[u8], page: &mut [u8]) -> Replayed
+// of `page`. Every byte of `page` stays where the answer is an error.
+pub fn replay(table: &[u16; 256], records: &[u8], page: &mut [u8]) -> Result<(), ReplayError>
     ensures value { (result ≡ replay_answer records.now page.old) × (page.new ≡ replayed (table_in table.now) records.now page.old) }
     ensures laws { Laws }
     ensures account { AccountLaws }
@@ -74,29 +81,22 @@ pub fn replay(table: &[u16; 256], records: &[u8], page: &mut [u8]) -> Replayed
     ensures examples { Examples }
 {
     if records.len() == 0 {
-        return Replayed::Empty;
+        return Err(ReplayError::Empty);
     }
     if records.len() < RECORD_LEN {
-        return Replayed::Short;
+        return Err(ReplayError::Short);
     }
     let first = input::record_at(records, 0);
     if first.kind != 0 {
-        return Replayed::Bad;
+        return Err(ReplayError::Bad);
     }
     let fresh = run::start(first);
-    let answer = fresh.answer;
-    if let Answer::Refused(number) = answer {
-        return Replayed::Refused(number);
-    }
+    accepted(fresh.answer)?;
     // A refused fresh ends the run before it comes to a cut record: this test stands behind it.
     if records.len() % RECORD_LEN != 0 {
-        return Replayed::Short;
+        return Err(ReplayError::Short);
     }
     let last = run::run_from(table, fresh.meter, records, 1);
-    let written = writer::write_page(last, table, page);
-    match written {
-        Answer::Accepted => Replayed::Written,
-        // Only a short buffer: whatever the calls were, they leave the meter sound.
-        Answer::Refused(number) => Replayed::Refused(number),
-    }
+    // Only a short buffer is refused: whatever the calls were, they leave the meter sound.
+    accepted(writer::write_page(last, table, page))
 }

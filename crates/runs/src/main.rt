@@ -2,7 +2,6 @@
 // records, and the page that they leave, an area to a line.
 #![tactic(auto)]
 
-use replay::Replayed;
 use std::env::{Env, FillError};
 use std::io::Read;
 use std::rt::Files;
@@ -50,9 +49,9 @@ fn print_last_page(rt: &impl Print, file: &mut impl Read) -> io::Result<()> {
     let got = listing::reading::read_part(file, &mut records).count;
     let table = tables::built_in();
     let replayed = replay::replay(&table, &records[..got], &mut page);
-    let Replayed::Written = replayed else {
+    if replayed.is_err() {
         return print(rt, b"no page\n");
-    };
+    }
     print_page(rt, page)
 }
 

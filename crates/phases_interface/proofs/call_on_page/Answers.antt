@@ -5,6 +5,8 @@ use mathlib.Core.Bool.{true}
 use mathlib.Core.List.{List}
 use native.Mathlib.Omega.{arith}
 use borrow.Author.Rules.{rules}
+use Rattle.std.specs.Prelude.{Err}
+use Rattle.calls.proofs.Named.{one_error}
 use Rattle.events.specs.Table.{EventRow}
 use Rattle.tables.specs.Index.{table_in}
 use Rattle.tables.proofs.Index.{table_lawful}
@@ -59,7 +61,7 @@ left_sound c =
 
 pub returns-in_default : goal.returns-in_default
 returns-in_default c = record {
-  three_phase_called = call_no_kind _ _ _ _ c.read_command.ensures.value _ c.in_default.is refl;
+  three_phase_called = call_no_kind _ _ _ _ c.read_command.ensures.value _ (c.in_default.is ∙ ap Err (one_error c.in_default.field-0)) refl;
   laws = laws;
   compared = compared;
 }
