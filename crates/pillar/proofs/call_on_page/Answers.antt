@@ -1,6 +1,8 @@
 -- `call_on_page` meets its contract: a kind that names no call returns at once, then a page that the reader refuses, and a call that is refused; the
 -- record that the call leaves is sound, as the one that was read is, and goes to the writer.
 use mathlib.Core.Path.{◌≡◌, refl, ap, ◌∙◌}
+use Rattle.std.specs.Prelude.{Err}
+use Rattle.calls.proofs.Named.{one_error}
 use mathlib.Core.Bool.{true}
 use native.Mathlib.Omega.{arith}
 use borrow.Author.Rules.{rules}
@@ -58,7 +60,7 @@ left_sound c =
     ∙ (laws_of (rows c) (table_lawful c.args.table.now)).kept_sound (given c) (call c) sized (in_range c) sound
 
 pub returns-in_default : goal.returns-in_default
-returns-in_default c = call_no_kind _ _ _ _ c.read_kind.ensures.value _ c.in_default.is refl
+returns-in_default c = call_no_kind _ _ _ _ c.read_kind.ensures.value _ (c.in_default.is ∙ ap Err (one_error c.in_default.field-0)) refl
 
 pub returns-in-Refused : goal.returns-in-Refused
 returns-in-Refused c =
