@@ -1,5 +1,5 @@
 -- The call that a kind names is of that kind, and the kinds from 1 to 17 name one.
-use Rattle.calls.specs.Calls.{ReadCall}
+use Rattle.calls.specs.Calls.{Parsed}
 use Rattle.base.proofs.Prelude.{◌≡◌, refl, sym, ◌∙◌, true, false, cond, false≢true, and-false, ℕ, suc, ◌≤◌, arith, eqb, lt-leb, eqb-true, eqb-false, within}
 use Rattle.base.proofs.Prelude.{by_test, ℤ, pos, negsuc, ◌-◌, lt-ltb, le-ltb, leb-true}
 use Rattle.calls.specs.declared.{Call.Call, Command.Command, CommandError.CommandError}
@@ -17,12 +17,12 @@ pub one_error : (e : CommandError) → e ≡ NoKind
 one_error NoKind = refl
 
 -- what was read of a kind: a call of that kind, which is one from 1 to 17, or none, and then it is none of them
-abbrev Read : ℕ → ReadCall → Type 0
+abbrev Read : ℕ → Parsed → Type 0
 Read k (Ok c) = (kind_of c ≡ k) × (within 1 17 k ≡ true)
 Read k (Err NoKind) = within 1 17 k ≡ false
 
 -- one kind of the list: it is this one, or a later one
-or_later : (k j : ℕ) (x : Call) (rest : ReadCall) → kind_of x ≡ j → within 1 17 j ≡ true → (suc j ≤ k → Read k rest) → j ≤ k
+or_later : (k j : ℕ) (x : Call) (rest : Parsed) → kind_of x ≡ j → within 1 17 j ≡ true → (suc j ≤ k → Read k rest) → j ≤ k
     → Read k (cond (eqb k j) (Ok x) rest)
 or_later k j x rest d w later h =
     by_test (eqb k j) (λ q. rw (q, eqb-true k j q) (d, w)) (λ q. rw q (later (omega (arith, eqb-false k j q))))
@@ -47,7 +47,7 @@ module _ (r : Command) where
   no_kind : within 1 17 r.kind ≡ false → call_of r ≡ Err NoKind
   no_kind out = go (call_of r) refl
     where
-      go : (p : ReadCall) → call_of r ≡ p → p ≡ Err NoKind
+      go : (p : Parsed) → call_of r ≡ p → p ≡ Err NoKind
       go (Ok c) e = absurd (false≢true (sym out ∙ (rw e at read).1))
       go (Err NoKind) e = refl
 

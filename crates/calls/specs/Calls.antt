@@ -59,13 +59,13 @@ abbrev pub command_of : ℕ → ℕ → ℕ → ℕ → ℕ → ℕ → Command
 command_of k n1 n2 n3 n4 n5 = record { kind = k; n1 = n1; n2 = n2; n3 = n3; n4 = n4; n5 = n5 }
 
 -- what a command is read as: the call that it names, or that it names none
-abbrev pub ReadCall : Type 0
-ReadCall = Result Call CommandError
+abbrev pub Parsed : Type 0
+Parsed = Result Call CommandError
 
 -- the call of a command's kind and five numbers, 'unused ones ignored'; document 02, A3: 'Kind 16 sets up to eight group ids (16 bits): a count, then the ids
 -- two to a number, high half first. Kind 17 takes an id, an emergency threshold, an activation clock and a duration in samples', and 'Refusal 13 now means not
 -- 1–17'
-unfoldable pub call_of : Command → ReadCall
+unfoldable pub call_of : Command → Parsed
 call_of r =
     let k = r.kind in
     cond (eqb k 1) (Ok (Sample (signed_of r.n1)))

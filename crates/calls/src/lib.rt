@@ -45,7 +45,7 @@ pub enum Answer {
 }
 
 impl Answer {
-    // 0, or the number of the refusal.
+    // 0, or the number of the refusal, which the case carries: no discriminant has it.
     pub fn number(self) -> u8
         ensures { result ≡ answer_number self }
     {

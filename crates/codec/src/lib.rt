@@ -18,6 +18,7 @@ pub fn put_u8(out: &mut [u8], at: usize, v: u8)
     out[at] = v;
 }
 
+// A function for each width: no trait of the library has `to_be_bytes`, which a common one would ask for.
 pub fn put_u16(out: &mut [u8], at: usize, v: u16)
     requires { at + 2 ≤ length out.old }
     ensures { out.new ≡ sets out.old at (be 2 v) }
@@ -31,7 +32,7 @@ pub fn put_u32(out: &mut [u8], at: usize, v: u32)
     requires { at + 4 ≤ length out.old }
     ensures { out.new ≡ sets out.old at (be 4 v) }
 {
-    // One store as compiled; `copy_from_slice` would test at run time that the two do not overlap.
+    // One by one, which compiles to one store; `copy_from_slice`, as compiled, compares addresses first.
     let [first, second, third, fourth] = v.to_be_bytes();
     out[at] = first;
     out[at + 1] = second;

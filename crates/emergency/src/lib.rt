@@ -29,7 +29,8 @@ pub struct Emergency {
     pub state: u8,
     // How many group ids there are.
     pub count: u8,
-    // The group ids, zeros past the count.
+    // The group ids, zeros past the count. A count and eight places, as the page holds them: a record that
+    // is not sound may have any of both.
     pub ids: [u16; 8],
 }
 

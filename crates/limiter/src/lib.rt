@@ -15,8 +15,8 @@ pub struct Limiter {
     pub run: u32,
 }
 
-// The limiter after a sample, and whether the sample changed Exceeded.
-// No Option: the limiter is another whether the sample fired or not.
+// The limiter after a sample, and whether the sample changed Exceeded. No Option: the limiter changes
+// whether the sample fired or not.
 #[derive(Clone, Copy)]
 pub struct Watched {
     pub limiter: Limiter,

@@ -15,7 +15,7 @@ use Rattle.calls.specs.Calls.{InRange, call_of}
 use Rattle.calls.specs.declared.Answer.TheVariants.{Refused}
 use Rattle.calls.specs.declared.Letter.TheVariants.{None}
 use Rattle.calls.specs.declared.Command.{Command}
-use Rattle.calls.specs.Calls.{ReadCall}
+use Rattle.calls.specs.Calls.{Parsed}
 use Rattle.calls.specs.declared.CommandError.TheVariants.{NoKind}
 use Rattle.std.specs.Prelude.{Ok, Err}
 use Rattle.history.specs.OnePhase.{as_call}
@@ -75,7 +75,7 @@ module _ (rows : List EventRow) (m : Meter) where
       either (λ (o : Outcome). o.answer ≡ Refused n → o.letter ≡ None) (sound_meter rows m)
       (λ e h. no_letter m (result_of rows (scalars_of m) c) n h) (λ e h. refl)
 
-  performed_same : (p : ReadCall) (n : ℕ) → (performed rows m p).answer ≡ Refused n → (performed rows m p).meter ≡ m
+  performed_same : (p : Parsed) (n : ℕ) → (performed rows m p).answer ≡ Refused n → (performed rows m p).meter ≡ m
   performed_same (Ok c) n h = refused_same c n h
   performed_same (Err NoKind) n h = refl
 

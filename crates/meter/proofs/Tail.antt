@@ -17,7 +17,7 @@ use Rattle.calls.specs.declared.Call.TheVariants.{Sample}
 use Rattle.calls.specs.declared.Answer.TheVariants.{Accepted}
 use Rattle.calls.specs.declared.Letter.TheVariants.{None}
 use Rattle.calls.specs.declared.Command.{Command}
-use Rattle.calls.specs.Calls.{ReadCall}
+use Rattle.calls.specs.Calls.{Parsed}
 use Rattle.calls.specs.declared.CommandError.TheVariants.{NoKind}
 use Rattle.std.specs.Prelude.{Ok, Err}
 use Rattle.calls.specs.Calls.{call_of}
@@ -115,7 +115,7 @@ module _ (rows : List EventRow) (m : Meter) where
       let is = (quiet_told (scalars_of m) p told).1 in
       rw (← is) (quiet_left rows m p (after_normal (scalars_of m) p) (told ∙ ap Some (sym is)) ∙ sound_in_parts (Sample p) z sound)
 
-  performed_in_parts_lem : (p : ReadCall) → Sized m.logs → sound_meter rows m ≡ true → performed_in_parts rows m p ≡ performed rows m p
+  performed_in_parts_lem : (p : Parsed) → Sized m.logs → sound_meter rows m ≡ true → performed_in_parts rows m p ≡ performed rows m p
   performed_in_parts_lem (Ok c) z e = sound_in_parts c z e
   performed_in_parts_lem (Err NoKind) z e = refl
 

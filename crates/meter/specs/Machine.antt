@@ -5,7 +5,7 @@ use Rattle.calls.specs.declared.Call.{Call}
 use Rattle.calls.specs.declared.Answer.TheVariants.{Accepted, Refused}
 use Rattle.calls.specs.declared.Letter.TheVariants.{None}
 use Rattle.calls.specs.declared.Command.{Command}
-use Rattle.calls.specs.Calls.{ReadCall}
+use Rattle.calls.specs.Calls.{Parsed}
 use Rattle.calls.specs.declared.CommandError.TheVariants.{NoKind}
 use Rattle.std.specs.Prelude.{Ok, Err}
 use Rattle.calls.specs.Calls.{call_of}
@@ -30,7 +30,7 @@ unfoldable pub applied : List EventRow → Meter → Call → Outcome
 applied rows m c = cond (sound_meter rows m) (carried_out m (result_of rows (scalars_of m) c)) (refused_with m 12)
 
 -- 'kind | 13 | ..; the command's reading fails before the record is touched'; document 02, A3: 'Refusal 13 now means not 1–17 ..'
-abbrev pub performed : List EventRow → Meter → ReadCall → Outcome
+abbrev pub performed : List EventRow → Meter → Parsed → Outcome
 performed rows m (Ok c) = applied rows m c
 performed rows m (Err NoKind) = refused_with m 13
 

@@ -4,7 +4,7 @@ use Rattle.events.specs.Table.{EventRow}
 use Rattle.calls.specs.declared.Call.{Call}
 use Rattle.calls.specs.declared.Answer.TheVariants.{Accepted}
 use Rattle.calls.specs.declared.Command.{Command}
-use Rattle.calls.specs.Calls.{ReadCall}
+use Rattle.calls.specs.Calls.{Parsed}
 use Rattle.calls.specs.declared.CommandError.TheVariants.{NoKind}
 use Rattle.std.specs.Prelude.{Ok, Err}
 use Rattle.calls.specs.Calls.{call_of}
@@ -44,7 +44,7 @@ abbrev pub carried_out_in_parts : List EventRow → Meter → Call → Outcome
 carried_out_in_parts rows m c = left_in m (result_of rows (scalars_of m) c)
 
 -- what a command names, carried out: 'kind | 13 | ..'
-abbrev pub performed_in_parts : List EventRow → Meter → ReadCall → Outcome
+abbrev pub performed_in_parts : List EventRow → Meter → Parsed → Outcome
 performed_in_parts rows m (Ok c) = carried_out_in_parts rows m c
 performed_in_parts rows m (Err NoKind) = refused_with m 13
 

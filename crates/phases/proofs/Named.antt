@@ -5,7 +5,7 @@ use Rattle.phases.specs.declared.{ThreePhaseCall.ThreePhaseCall, ThreePhaseComma
 use Rattle.phases.specs.declared.ThreePhaseCall.TheVariants.{Sample, RemoteDisconnect, RemoteReconnect, ManualDisconnect, ManualReconnect, SetMode}
 use Rattle.phases.specs.declared.ThreePhaseCall.TheVariants.{SetLimiter, SetClock, Event, SetAlarmFilter, SetErrorFilter, ClearAlarms, ClearErrors}
 use Rattle.phases.specs.declared.ThreePhaseCall.TheVariants.{ClearLog, Script}
-use Rattle.phases.specs.Calls.{ThreePhaseReadCall}
+use Rattle.phases.specs.Calls.{ThreePhaseParsed}
 use Rattle.calls.specs.declared.CommandError.TheVariants.{NoKind}
 use Rattle.std.specs.Prelude.{Ok, Err}
 use Rattle.base.specs.Tests.{numbers_from}
@@ -14,12 +14,12 @@ use Rattle.phases.specs.Calls.{three_phase_kind_of, three_phase_call_of, ThreePh
 use Rattle.phases.specs.Laws.{three_phase_command_naming, Laws}
 
 -- what was read of a kind: a call of that kind, which is one from 1 to 15, or none, and then it is none of them
-abbrev Read : ℕ → ThreePhaseReadCall → Type 0
+abbrev Read : ℕ → ThreePhaseParsed → Type 0
 Read k (Ok c) = (three_phase_kind_of c ≡ k) × (within 1 15 k ≡ true)
 Read k (Err NoKind) = within 1 15 k ≡ false
 
 -- one kind of the list: it is this one, or a later one
-or_later : (k j : ℕ) (x : ThreePhaseCall) (rest : ThreePhaseReadCall) → three_phase_kind_of x ≡ j → within 1 15 j ≡ true → (suc j ≤ k → Read k rest) → j ≤ k
+or_later : (k j : ℕ) (x : ThreePhaseCall) (rest : ThreePhaseParsed) → three_phase_kind_of x ≡ j → within 1 15 j ≡ true → (suc j ≤ k → Read k rest) → j ≤ k
     → Read k (cond (eqb k j) (Ok x) rest)
 or_later k j x rest d w later h =
     by_test (eqb k j) (λ q. rw (q, eqb-true k j q) (d, w)) (λ q. rw q (later (omega (arith, eqb-false k j q))))
@@ -44,7 +44,7 @@ module _ (r : ThreePhaseCommand) where
   no_kind : within 1 15 r.kind ≡ false → three_phase_call_of r ≡ Err NoKind
   no_kind out = go (three_phase_call_of r) refl
     where
-      go : (p : ThreePhaseReadCall) → three_phase_call_of r ≡ p → p ≡ Err NoKind
+      go : (p : ThreePhaseParsed) → three_phase_call_of r ≡ p → p ≡ Err NoKind
       go (Ok c) e = absurd (false≢true (sym out ∙ (rw e at read).1))
       go (Err NoKind) e = refl
 

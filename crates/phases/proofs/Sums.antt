@@ -23,10 +23,7 @@ sum_size (negsuc a) (negsuc b) = omega arith
 pub wider : (z : ℤ) → SFits w32 z → SFits w64 z
 wider z h = record { sfits = let p = h.sfits in omega (arith, p) }
 
--- of two, and of three
-pub two_fit : (a b : ℤ) → SFits w32 a → SFits w32 b → SFits w64 (a +ℤ b)
-two_fit a b h k = record { sfits = let p = h.sfits in let q = k.sfits in let s = sum_size a b in omega (arith, p, q, s) }
-
+-- of three
 pub three_fit : (a b c : ℤ) → SFits w32 a → SFits w32 b → SFits w32 c → SFits w64 ((a +ℤ b) +ℤ c)
 three_fit a b c h k l =
     record {

@@ -34,12 +34,12 @@ three_phase_command_of k n1 n2 n3 n4 n5 n6 n7 n8 =
     record { kind = k; n1 = n1; n2 = n2; n3 = n3; n4 = n4; n5 = n5; n6 = n6; n7 = n7; n8 = n8 }
 
 -- what a command is read as: the call that it names, or that it names none
-abbrev pub ThreePhaseReadCall : Type 0
-ThreePhaseReadCall = Result ThreePhaseCall CommandError
+abbrev pub ThreePhaseParsed : Type 0
+ThreePhaseParsed = Result ThreePhaseCall CommandError
 
 -- the call of a command's kind and numbers: '.. three powers a second', 'Fresh and call 7 take four thresholds ..', and Over and Under behind them; 'a
 -- sample or threshold is two's complement', 'unused ones ignored'
-unfoldable pub three_phase_call_of : ThreePhaseCommand → ThreePhaseReadCall
+unfoldable pub three_phase_call_of : ThreePhaseCommand → ThreePhaseParsed
 three_phase_call_of r =
     let k = r.kind in
     cond (eqb k 1) (Ok (Sample (signed_of r.n1) (signed_of r.n2) (signed_of r.n3)))

@@ -57,7 +57,7 @@ pub type ThreePhaseParsed = Result<ThreePhaseCall, CommandError>;
 pub fn exact_sum(l1: i32, l2: i32, l3: i32) -> i64
     ensures { result ≡ exact_sum l1 l2 l3 }
 {
-    l1 as i64 + l2 as i64 + l3 as i64
+    i64::from(l1) + i64::from(l2) + i64::from(l3)
 }
 
 // A kind ignores the numbers that it has no use for. The emergency profile's kinds, 16 and 17, are not

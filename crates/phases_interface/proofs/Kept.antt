@@ -9,7 +9,7 @@ use Rattle.calls.specs.declared.Answer.TheVariants.{Accepted, Refused}
 use Rattle.calls.specs.Calls.{answer_number, letter_byte}
 use Rattle.phases.specs.declared.ThreePhaseCall.{ThreePhaseCall}
 use Rattle.phases.specs.declared.ThreePhaseCommand.{ThreePhaseCommand}
-use Rattle.phases.specs.Calls.{ThreePhaseReadCall}
+use Rattle.phases.specs.Calls.{ThreePhaseParsed}
 use Rattle.calls.specs.declared.CommandError.TheVariants.{NoKind}
 use Rattle.std.specs.Prelude.{Ok, Err}
 use Rattle.phases.specs.Calls.{three_phase_call_of, ThreePhaseInRange}
@@ -32,7 +32,7 @@ module _ (rows : List EventRow) (o : ThreePhaseOutcome) (page : List ℕ) where
   kept_written r a after e number wrote = (rw e (number ∙ ap answer_number wrote.0), rw e wrote.1)
 
 -- a command that is read as p
-module _ (rows : List EventRow) (page : List ℕ) (r : ThreePhaseCommand) (p : ThreePhaseReadCall) (parsed : p ≡ three_phase_call_of r) where
+module _ (rows : List EventRow) (page : List ℕ) (r : ThreePhaseCommand) (p : ThreePhaseParsed) (parsed : p ≡ three_phase_call_of r) where
   pub call_no_kind : (b : ℕ) → p ≡ Err NoKind → b ≡ letter_byte (three_phase_performed_letter rows page (Err NoKind)) → ThreePhaseCalled rows page r 13 page b
   unfolding three_phase_call_number three_phase_call_page three_phase_call_letter
   call_no_kind b e letter = record { answers = rw (← parsed, e); leaves = rw (← parsed, e); stores = rw (← parsed, e) letter }
@@ -63,7 +63,7 @@ module _ (rows : List EventRow) (page : List ℕ) (r : ThreePhaseCommand) (p : T
         }
 
 -- the numbers of a call that a command of numbers of 32 bits names are values of their types
-pub named_range : (p : ThreePhaseReadCall) (c : ThreePhaseCall) (r : ThreePhaseCommand) → p ≡ three_phase_call_of r → p ≡ Ok c → r.n1 < 256 ^ 4
+pub named_range : (p : ThreePhaseParsed) (c : ThreePhaseCall) (r : ThreePhaseCommand) → p ≡ three_phase_call_of r → p ≡ Ok c → r.n1 < 256 ^ 4
     → r.n2 < 256 ^ 4 → r.n3 < 256 ^ 4 → r.n4 < 256 ^ 4 → r.n5 < 256 ^ 4 → r.n6 < 256 ^ 4 → ThreePhaseInRange c
 named_range p c r read names h1 h2 h3 h4 h5 h6 =
     let range : NamedInRange p = rw read (call_range r h1 h2 h3 h4 h5 h6) in

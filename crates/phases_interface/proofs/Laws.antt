@@ -36,7 +36,7 @@ use Rattle.replay.proofs.Numbers.{kept_answer, kept_bytes, kept_written, kept_pa
 use Rattle.replay.proofs.Numbers.{zero_exactly, numbers_tell}
 use Rattle.phases.specs.declared.ThreePhaseCall.{ThreePhaseCall}
 use Rattle.phases.specs.declared.ThreePhaseCommand.{ThreePhaseCommand}
-use Rattle.phases.specs.Calls.{ThreePhaseReadCall}
+use Rattle.phases.specs.Calls.{ThreePhaseParsed}
 use Rattle.calls.specs.declared.CommandError.TheVariants.{NoKind}
 use Rattle.std.specs.Prelude.{Ok, Err}
 use Rattle.phases.specs.Calls.{three_phase_call_of, ThreePhaseInRange, AllThreePhaseInRange}
@@ -119,7 +119,7 @@ module _ (rows : List EventRow) where
   unfolding three_phase_call_number three_phase_call_page
   call_same page r = go (three_phase_call_of r)
     where
-      go : (p : ThreePhaseReadCall) → (three_phase_performed_number rows page p ≡ 0 → ⊥) → three_phase_performed_page rows page p ≡ page
+      go : (p : ThreePhaseParsed) → (three_phase_performed_number rows page p ≡ 0 → ⊥) → three_phase_performed_page rows page p ≡ page
       go (Ok c) some = read_same (three_phase_read_of rows page).answer _ _ page (refused_bytes (three_phase_outcome_on rows page c) page) some
       go (Err NoKind) some = refl
 
@@ -134,7 +134,7 @@ module _ (rows : List EventRow) where
     unfolding three_phase_call_number
     unread n in_kinds e = go _ refl
       where
-        go : (p : ThreePhaseReadCall) → three_phase_call_of r ≡ p → three_phase_performed_number rows page p ≡ n
+        go : (p : ThreePhaseParsed) → three_phase_call_of r ≡ p → three_phase_performed_number rows page p ≡ n
         go (Ok c) names = rw e
         go (Err NoKind) names = absurd (call_laws.some_kind r in_kinds names)
 
@@ -159,7 +159,7 @@ record Read (rows : List EventRow) (page : List ℕ) (m : ThreePhaseMeter) : Typ
 module _ (rows : List EventRow) (table : every lawful rows ≡ true) where
   -- ---- a call on a page that is read
 
-  performed_sound : (m : ThreePhaseMeter) (p : ThreePhaseReadCall) → AllThreePhaseInRange (three_phase_with_call p []) → sound_three_phase_meter rows m ≡ true
+  performed_sound : (m : ThreePhaseMeter) (p : ThreePhaseParsed) → AllThreePhaseInRange (three_phase_with_call p []) → sound_three_phase_meter rows m ≡ true
       → Sized m.logs → sound_three_phase_meter rows (three_phase_performed rows m p).meter ≡ true
   performed_sound m (Ok c) i sound sized = ((meter.laws).1 rows table).kept_sound m c sized i.0 sound
   performed_sound m (Err NoKind) i sound sized = sound
@@ -178,7 +178,7 @@ module _ (rows : List EventRow) (table : every lawful rows ≡ true) where
     unfolding three_phase_call_number three_phase_commanded three_phase_kept_number
     number_read = go (three_phase_call_of r)
       where
-        go : (p : ThreePhaseReadCall) → three_phase_performed_number rows page p ≡ three_phase_kept_number rows (three_phase_performed rows m p) page
+        go : (p : ThreePhaseParsed) → three_phase_performed_number rows page p ≡ three_phase_kept_number rows (three_phase_performed rows m p) page
         go (Ok c) = ap (λ (o : ThreePhaseOutcome). number_or o.answer (three_phase_kept_number rows (three_phase_applied rows o.meter c) page)) k.reads
         go (Err NoKind) = refl
 
@@ -186,7 +186,7 @@ module _ (rows : List EventRow) (table : every lawful rows ≡ true) where
     unfolding three_phase_call_page three_phase_commanded three_phase_kept_page
     page_read = go (three_phase_call_of r)
       where
-        go : (p : ThreePhaseReadCall) → three_phase_performed_page rows page p ≡ three_phase_kept_page rows (three_phase_performed rows m p) page
+        go : (p : ThreePhaseParsed) → three_phase_performed_page rows page p ≡ three_phase_kept_page rows (three_phase_performed rows m p) page
         go (Ok c) =
             ap (λ (o : ThreePhaseOutcome). if_accepted o.answer (three_phase_kept_page rows (three_phase_applied rows o.meter c) page) page) k.reads
         go (Err NoKind) = refl
@@ -248,7 +248,7 @@ module _ (rows : List EventRow) (table : every lawful rows ≡ true) where
   range_behind [] c i k = (k, tt)
   range_behind (d ∷ calls) c i k = (i.0, range_behind calls c i.1 k)
 
-  first_range : (p : ThreePhaseReadCall) (cs : List ThreePhaseCall) → AllThreePhaseInRange (three_phase_with_call p cs)
+  first_range : (p : ThreePhaseParsed) (cs : List ThreePhaseCall) → AllThreePhaseInRange (three_phase_with_call p cs)
       → AllThreePhaseInRange (three_phase_with_call p [])
   first_range (Ok c) cs i = (i.0, tt)
   first_range (Err NoKind) cs i = tt
@@ -274,7 +274,7 @@ module _ (rows : List EventRow) (table : every lawful rows ≡ true) where
         (page_on (from_record calls k) r (first_range (three_phase_call_of r) (three_phase_calls_in rs) i))
         ∙ go (three_phase_call_of r) i (pages_from rs)
       where
-        go : (p : ThreePhaseReadCall) → AllThreePhaseInRange (three_phase_with_call p (three_phase_calls_in rs))
+        go : (p : ThreePhaseParsed) → AllThreePhaseInRange (three_phase_with_call p (three_phase_calls_in rs))
             → ((calls : List ThreePhaseCall) → AllThreePhaseInRange (three_phase_calls_in rs) → AllThreePhaseInRange calls
             → three_phase_call_pages rows (three_phase_page_of (reached calls)) rs ≡ three_phase_page_of (three_phase_meter_after rows (reached calls) rs))
             → three_phase_call_pages rows (three_phase_page_of (three_phase_performed rows (reached calls) p).meter) rs
@@ -315,7 +315,7 @@ module _ (rows : List EventRow) (table : every lawful rows ≡ true) where
       none c Accepted e z = absurd (z refl)
       none c (Refused n) e z = ((meter.laws).1 rows table).refused_letter m c n e
 
-      go : (p : ThreePhaseReadCall) (a : Answer) → three_phase_call_of r ≡ p → (three_phase_read_of rows page).answer ≡ a
+      go : (p : ThreePhaseParsed) (a : Answer) → three_phase_call_of r ≡ p → (three_phase_read_of rows page).answer ≡ a
           → letter_byte (three_phase_performed_letter rows page p) ≡ 0
       go (Err NoKind) a names e = refl
       go (Ok c) (Refused n) names e = rw e

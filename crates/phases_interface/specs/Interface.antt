@@ -8,7 +8,7 @@ use Rattle.calls.specs.declared.Letter.TheVariants.{None}
 use Rattle.calls.specs.Calls.{answer_number, letter_byte}
 use Rattle.phases.specs.declared.ThreePhaseCall.{ThreePhaseCall}
 use Rattle.phases.specs.declared.ThreePhaseCommand.{ThreePhaseCommand}
-use Rattle.phases.specs.Calls.{ThreePhaseReadCall}
+use Rattle.phases.specs.Calls.{ThreePhaseParsed}
 use Rattle.calls.specs.declared.CommandError.TheVariants.{NoKind}
 use Rattle.std.specs.Prelude.{Ok, Err}
 use Rattle.phases.specs.Calls.{three_phase_call_of}
@@ -41,19 +41,19 @@ three_phase_outcome_on rows page c = three_phase_applied rows (three_phase_read_
 
 -- 'kind | 13 | not 1–15; the command's reading fails before the record is touched', and of A3's kinds (document 02, A13): '.. its kinds get 13 ..': before
 -- 'reader | 9 | ..', 10, 11; then the call's own
-abbrev pub three_phase_performed_number : List EventRow → List ℕ → ThreePhaseReadCall → ℕ
+abbrev pub three_phase_performed_number : List EventRow → List ℕ → ThreePhaseParsed → ℕ
 three_phase_performed_number rows page (Ok c) =
     number_or (three_phase_read_of rows page).answer (three_phase_kept_number rows (three_phase_outcome_on rows page c) page)
 three_phase_performed_number rows page (Err NoKind) = 13
 
 -- the bytes afterwards: the page of the record that the call handed back, or as they were on a refusal
-abbrev pub three_phase_performed_page : List EventRow → List ℕ → ThreePhaseReadCall → List ℕ
+abbrev pub three_phase_performed_page : List EventRow → List ℕ → ThreePhaseParsed → List ℕ
 three_phase_performed_page rows page (Ok c) =
     if_accepted (three_phase_read_of rows page).answer (three_phase_kept_page rows (three_phase_outcome_on rows page c) page) page
 three_phase_performed_page rows page (Err NoKind) = page
 
 -- document 02, A2: the letter of the move that the call made; '.. none, and so does a call that is refused ..', by the reader too
-abbrev pub three_phase_performed_letter : List EventRow → List ℕ → ThreePhaseReadCall → Letter
+abbrev pub three_phase_performed_letter : List EventRow → List ℕ → ThreePhaseParsed → Letter
 three_phase_performed_letter rows page (Ok c) = if_accepted (three_phase_read_of rows page).answer (three_phase_outcome_on rows page c).letter None
 three_phase_performed_letter rows page (Err NoKind) = None
 

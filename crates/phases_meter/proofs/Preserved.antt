@@ -16,7 +16,7 @@ use Rattle.machine.proofs.Preserved.{kept_sound}
 use Rattle.status.proofs.Arrays.{after_sized}
 use Rattle.phases.specs.declared.ThreePhaseCall.{ThreePhaseCall}
 use Rattle.phases.specs.declared.ThreePhaseCommand.{ThreePhaseCommand}
-use Rattle.phases.specs.Calls.{ThreePhaseReadCall}
+use Rattle.phases.specs.Calls.{ThreePhaseParsed}
 use Rattle.calls.specs.declared.CommandError.TheVariants.{NoKind}
 use Rattle.std.specs.Prelude.{Ok, Err}
 use Rattle.phases.specs.Calls.{ThreePhaseInRange, three_phase_call_of}
@@ -71,7 +71,7 @@ module _ (rows : List EventRow) (m : ThreePhaseMeter) where
       either (λ (o : ThreePhaseOutcome). o.answer ≡ Refused n → o.letter ≡ None) (sound_three_phase_meter rows m)
       (λ e h. no_letter m (three_phase_result rows m.scalars c) n h) (λ e h. refl)
 
-  performed_same : (p : ThreePhaseReadCall) (n : ℕ) → (three_phase_performed rows m p).answer ≡ Refused n → (three_phase_performed rows m p).meter ≡ m
+  performed_same : (p : ThreePhaseParsed) (n : ℕ) → (three_phase_performed rows m p).answer ≡ Refused n → (three_phase_performed rows m p).meter ≡ m
   performed_same (Ok c) n h = refused_same c n h
   performed_same (Err NoKind) n h = refl
 

@@ -9,7 +9,7 @@ use Rattle.status.proofs.Arrays.{arrays_after_lem}
 use Rattle.status.proofs.Records.{lines_fit, lines_first}
 use Rattle.phases.specs.declared.ThreePhaseCall.{ThreePhaseCall}
 use Rattle.phases.specs.declared.ThreePhaseCommand.{ThreePhaseCommand}
-use Rattle.phases.specs.Calls.{ThreePhaseReadCall}
+use Rattle.phases.specs.Calls.{ThreePhaseParsed}
 use Rattle.calls.specs.declared.CommandError.TheVariants.{NoKind}
 use Rattle.std.specs.Prelude.{Ok, Err}
 use Rattle.phases.specs.Calls.{three_phase_call_of}
@@ -75,7 +75,7 @@ module _ (rows : List EventRow) (m : ThreePhaseMeter) where
       → o ≡ three_phase_applied rows m c
   of_parts c o z sound p = rw p (sound_in_parts c z sound)
 
-  performed_in_parts_lem : (p : ThreePhaseReadCall) → Sized m.logs → sound_three_phase_meter rows m ≡ true
+  performed_in_parts_lem : (p : ThreePhaseParsed) → Sized m.logs → sound_three_phase_meter rows m ≡ true
       → three_phase_parsed_in_parts rows m p ≡ three_phase_performed rows m p
   performed_in_parts_lem (Ok c) z e = sound_in_parts c z e
   performed_in_parts_lem (Err NoKind) z e = refl

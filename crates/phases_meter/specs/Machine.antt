@@ -6,7 +6,7 @@ use Rattle.calls.specs.declared.Letter.TheVariants.{None}
 use Rattle.machine.specs.Machine.{Result, refusing, making, state_after}
 use Rattle.phases.specs.declared.ThreePhaseCall.{ThreePhaseCall}
 use Rattle.phases.specs.declared.ThreePhaseCommand.{ThreePhaseCommand}
-use Rattle.phases.specs.Calls.{ThreePhaseReadCall}
+use Rattle.phases.specs.Calls.{ThreePhaseParsed}
 use Rattle.calls.specs.declared.CommandError.TheVariants.{NoKind}
 use Rattle.std.specs.Prelude.{Ok, Err}
 use Rattle.phases.specs.Calls.{three_phase_call_of}
@@ -31,7 +31,7 @@ three_phase_applied rows m c =
     cond (sound_three_phase_meter rows m) (three_phase_carried_out m (three_phase_result rows m.scalars c)) (three_phase_refused m 12)
 
 -- 'kind | 13 | ..; the command's reading fails before the record is touched'; of A3's kinds (document 02, A13): '.. its kinds get 13 ..'
-abbrev pub three_phase_performed : List EventRow → ThreePhaseMeter → ThreePhaseReadCall → ThreePhaseOutcome
+abbrev pub three_phase_performed : List EventRow → ThreePhaseMeter → ThreePhaseParsed → ThreePhaseOutcome
 three_phase_performed rows m (Ok c) = three_phase_applied rows m c
 three_phase_performed rows m (Err NoKind) = three_phase_refused m 13
 

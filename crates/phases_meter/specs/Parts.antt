@@ -6,7 +6,7 @@ use Rattle.machine.specs.Machine.{Result, refusing, making}
 use Rattle.status.specs.Arrays.{Lent, arrays_after}
 use Rattle.phases.specs.declared.ThreePhaseCall.{ThreePhaseCall}
 use Rattle.phases.specs.declared.ThreePhaseCommand.{ThreePhaseCommand}
-use Rattle.phases.specs.Calls.{ThreePhaseReadCall}
+use Rattle.phases.specs.Calls.{ThreePhaseParsed}
 use Rattle.calls.specs.declared.CommandError.TheVariants.{NoKind}
 use Rattle.std.specs.Prelude.{Ok, Err}
 use Rattle.phases.specs.Calls.{three_phase_call_of}
@@ -45,7 +45,7 @@ abbrev pub three_phase_in_parts : List EventRow → ThreePhaseMeter → ThreePha
 three_phase_in_parts rows m c = three_phase_left_in m (three_phase_result rows m.scalars c)
 
 -- what a command names, carried out: 'kind | 13 | ..'
-abbrev pub three_phase_parsed_in_parts : List EventRow → ThreePhaseMeter → ThreePhaseReadCall → ThreePhaseOutcome
+abbrev pub three_phase_parsed_in_parts : List EventRow → ThreePhaseMeter → ThreePhaseParsed → ThreePhaseOutcome
 three_phase_parsed_in_parts rows m (Ok c) = three_phase_in_parts rows m c
 three_phase_parsed_in_parts rows m (Err NoKind) = three_phase_refused m 13
 

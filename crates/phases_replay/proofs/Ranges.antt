@@ -3,7 +3,7 @@ use Rattle.base.proofs.Prelude.{List, [], ◌∷◌, ◌^◌, ◌<◌, eqb}
 use Rattle.codec.specs.Format.{AllHold}
 use Rattle.phases.specs.declared.ThreePhaseCall.{ThreePhaseCall}
 use Rattle.phases.specs.declared.ThreePhaseCommand.{ThreePhaseCommand}
-use Rattle.phases.specs.Calls.{ThreePhaseReadCall}
+use Rattle.phases.specs.Calls.{ThreePhaseParsed}
 use Rattle.calls.specs.declared.CommandError.TheVariants.{NoKind}
 use Rattle.std.specs.Prelude.{Ok, Err}
 use Rattle.phases.specs.Calls.{three_phase_call_of, ThreePhaseInRange, AllThreePhaseInRange}
@@ -13,7 +13,7 @@ use Rattle.phases_replay.specs.Input.{three_phase_record_format}
 use Rattle.phases_replay.specs.Replay.{three_phase_settings_in, three_phase_with_call, three_phase_calls_in}
 
 -- what is named, if anything, is in range
-abbrev pub NamedInRange : ThreePhaseReadCall → Type 0
+abbrev pub NamedInRange : ThreePhaseParsed → Type 0
 NamedInRange (Ok c) = ThreePhaseInRange c
 NamedInRange (Err NoKind) = Unit
 
@@ -59,7 +59,7 @@ module _ (r : ThreePhaseCommand) (h : three_phase_record_format.Holds r) where
   pub parsed_range : NamedInRange (three_phase_call_of r)
   parsed_range = let n = h.0.1 in call_range r n.0 n.1.0 n.1.1.0 n.1.1.1.0 n.1.1.1.1.0 n.1.1.1.1.1.0
 
-with_call_lem : (p : ThreePhaseReadCall) (cs : List ThreePhaseCall) → NamedInRange p → AllThreePhaseInRange cs → AllThreePhaseInRange (three_phase_with_call p cs)
+with_call_lem : (p : ThreePhaseParsed) (cs : List ThreePhaseCall) → NamedInRange p → AllThreePhaseInRange cs → AllThreePhaseInRange (three_phase_with_call p cs)
 with_call_lem (Ok c) cs i is = (i, is)
 with_call_lem (Err NoKind) cs i is = is
 

@@ -9,7 +9,7 @@ use Rattle.calls.specs.declared.Answer.{Answer}
 use Rattle.calls.specs.declared.Answer.TheVariants as answer
 use Rattle.phases.specs.declared.ThreePhaseCall.{ThreePhaseCall}
 use Rattle.phases.specs.declared.ThreePhaseCommand.{ThreePhaseCommand}
-use Rattle.phases.specs.Calls.{ThreePhaseReadCall}
+use Rattle.phases.specs.Calls.{ThreePhaseParsed}
 use Rattle.calls.specs.declared.CommandError.TheVariants.{NoKind}
 use Rattle.std.specs.Prelude.{Ok, Err}
 use Rattle.phases.specs.Calls.{three_phase_call_of, AllThreePhaseInRange}
@@ -46,7 +46,7 @@ module _ (rows : List EventRow) where
   unfolding three_phase_record_after three_phase_calls_in three_phase_commanded
   meter_next m r rs = go (three_phase_call_of r)
     where
-      go : (p : ThreePhaseReadCall)
+      go : (p : ThreePhaseParsed)
           → three_phase_record_after rows m (three_phase_with_call p (three_phase_calls_in rs))
           ≡ three_phase_record_after rows (three_phase_performed rows m p).meter (three_phase_calls_in rs)
       go (Ok c) = refl
@@ -57,7 +57,7 @@ module _ (rows : List EventRow) where
   unfolding three_phase_commanded
   commanded_sized m r z = go (three_phase_call_of r)
     where
-      go : (p : ThreePhaseReadCall) → Sized (three_phase_performed rows m p).meter.logs
+      go : (p : ThreePhaseParsed) → Sized (three_phase_performed rows m p).meter.logs
       go (Ok c) = applied_sized rows m c z
       go (Err NoKind) = z
 
@@ -67,7 +67,7 @@ module _ (rows : List EventRow) where
   unfolding three_phase_commanded
   commanded_sound table m r h z e = go (three_phase_call_of r) (parsed_range r h)
     where
-      go : (p : ThreePhaseReadCall) → NamedInRange p → sound_three_phase_meter rows (three_phase_performed rows m p).meter ≡ true
+      go : (p : ThreePhaseParsed) → NamedInRange p → sound_three_phase_meter rows (three_phase_performed rows m p).meter ≡ true
       go (Ok c) i = applied_sound rows table m c i z e
       go (Err NoKind) i = e
 

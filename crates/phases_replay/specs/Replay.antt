@@ -5,7 +5,7 @@ use Rattle.events.specs.Table.{EventRow}
 use Rattle.calls.specs.Calls.{signed_of}
 use Rattle.phases.specs.declared.ThreePhaseCall.{ThreePhaseCall}
 use Rattle.phases.specs.declared.ThreePhaseCommand.{ThreePhaseCommand}
-use Rattle.phases.specs.Calls.{ThreePhaseReadCall}
+use Rattle.phases.specs.Calls.{ThreePhaseParsed}
 use Rattle.calls.specs.declared.CommandError.TheVariants.{NoKind}
 use Rattle.std.specs.Prelude.{Ok, Err}
 use Rattle.phases.specs.Calls.{three_phase_call_of}
@@ -46,7 +46,7 @@ three_phase_settings_in r =
 
 -- 'kind | 13 | not 1–15; the command's reading fails before the record is touched', and of A3's kinds (document 02, A13): '.. its kinds get 13 ..': such a
 -- record adds no call
-abbrev pub three_phase_with_call : ThreePhaseReadCall → List ThreePhaseCall → List ThreePhaseCall
+abbrev pub three_phase_with_call : ThreePhaseParsed → List ThreePhaseCall → List ThreePhaseCall
 three_phase_with_call (Ok c) cs = c ∷ cs
 three_phase_with_call (Err NoKind) cs = cs
 

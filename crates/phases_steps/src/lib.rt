@@ -94,7 +94,7 @@ impl ThreePhaseScalars {
         }
     }
 
-    // The step of each call.
+    // The step of each call: a match, as a call is an enum with its numbers (document 01's form).
     pub fn step(self, table: &[u16; 256], call: ThreePhaseCall) -> ThreePhaseStep
         ensures value { result ≡ three_phase_step_of self (three_phase_result (table_in table.now) self call) }
         ensures laws { Laws }

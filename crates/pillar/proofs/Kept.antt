@@ -7,7 +7,7 @@ use Rattle.calls.specs.declared.Answer.{Answer}
 use Rattle.calls.specs.declared.Answer.TheVariants.{Accepted, Refused}
 use Rattle.calls.specs.declared.Call.{Call}
 use Rattle.calls.specs.declared.Command.{Command}
-use Rattle.calls.specs.Calls.{ReadCall}
+use Rattle.calls.specs.Calls.{Parsed}
 use Rattle.calls.specs.declared.CommandError.TheVariants.{NoKind}
 use Rattle.std.specs.Prelude.{Ok, Err}
 use Rattle.calls.specs.Calls.{answer_number, letter_byte, call_of, InRange}
@@ -29,7 +29,7 @@ module _ (rows : List EventRow) (o : Outcome) (page : List ℕ) where
   kept_written r a after e number wrote = (rw e (number ∙ ap answer_number wrote.0), rw e wrote.1)
 
 -- a command that is read as p
-module _ (rows : List EventRow) (page : List ℕ) (r : Command) (p : ReadCall) (parsed : p ≡ call_of r) where
+module _ (rows : List EventRow) (page : List ℕ) (r : Command) (p : Parsed) (parsed : p ≡ call_of r) where
   pub call_no_kind : (b : ℕ) → p ≡ Err NoKind → b ≡ letter_byte (performed_letter rows page (Err NoKind)) → Called rows page r 13 page b
   unfolding call_number call_page call_letter
   call_no_kind b e letter = record { answers = rw (← parsed, e); leaves = rw (← parsed, e); stores = rw (← parsed, e) letter }
@@ -58,7 +58,7 @@ module _ (rows : List EventRow) (page : List ℕ) (r : Command) (p : ReadCall) (
         }
 
 -- the numbers of a call that a command of numbers of 32 bits names are values of their types
-pub named_range : (p : ReadCall) (c : Call) (r : Command) → p ≡ call_of r → p ≡ Ok c → r.n1 < 256 ^ 4 → r.n2 < 256 ^ 4 → r.n3 < 256 ^ 4
+pub named_range : (p : Parsed) (c : Call) (r : Command) → p ≡ call_of r → p ≡ Ok c → r.n1 < 256 ^ 4 → r.n2 < 256 ^ 4 → r.n3 < 256 ^ 4
     → r.n4 < 256 ^ 4 → r.n5 < 256 ^ 4 → InRange c
 named_range p c r read names h1 h2 h3 h4 h5 =
     let range : ParsedInRange p = rw read (call_range r h1 h2 h3 h4 h5) in

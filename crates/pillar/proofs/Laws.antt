@@ -22,7 +22,7 @@ use Rattle.calls.specs.declared.Answer.{Answer}
 use Rattle.calls.specs.declared.Answer.TheVariants.{Accepted, Refused}
 use Rattle.calls.specs.declared.Command.{Command}
 use Rattle.calls.specs.declared.Letter.TheVariants.{None}
-use Rattle.calls.specs.Calls.{ReadCall}
+use Rattle.calls.specs.Calls.{Parsed}
 use Rattle.calls.specs.declared.CommandError.TheVariants.{NoKind}
 use Rattle.std.specs.Prelude.{Ok, Err}
 use Rattle.calls.specs.Calls.{answer_number, letter_byte, call_of, InRange, AllInRange}
@@ -90,7 +90,7 @@ module _ (rows : List EventRow) where
   unfolding call_number call_page
   call_same page r = go (call_of r)
     where
-      go : (p : ReadCall) → (performed_number rows page p ≡ 0 → ⊥) → performed_page rows page p ≡ page
+      go : (p : Parsed) → (performed_number rows page p ≡ 0 → ⊥) → performed_page rows page p ≡ page
       go (Ok c) some = read_same (read_of rows page).answer _ _ page (refused_bytes (outcome_on rows page c) page) some
       go (Err NoKind) some = refl
 
@@ -105,7 +105,7 @@ module _ (rows : List EventRow) where
     unfolding call_number
     unread n in_kinds e = go _ refl
       where
-        go : (p : ReadCall) → call_of r ≡ p → performed_number rows page p ≡ n
+        go : (p : Parsed) → call_of r ≡ p → performed_number rows page p ≡ n
         go (Ok c) names = rw e
         go (Err NoKind) names = absurd (call_laws.some_kind r in_kinds names)
 
@@ -130,7 +130,7 @@ pub record Read (rows : List EventRow) (page : List ℕ) (m : Meter) : Type 0 wh
 module _ (rows : List EventRow) (table : every lawful rows ≡ true) where
   -- ---- a call on a page that is read
 
-  performed_sound : (m : Meter) (p : ReadCall) → AllInRange (with_call p []) → sound_meter rows m ≡ true → Sized m.logs
+  performed_sound : (m : Meter) (p : Parsed) → AllInRange (with_call p []) → sound_meter rows m ≡ true → Sized m.logs
       → sound_meter rows (performed rows m p).meter ≡ true
   performed_sound m (Ok c) i sound sized = ((meter.laws).1 rows table).kept_sound m c sized i.0 sound
   performed_sound m (Err NoKind) i sound sized = sound
@@ -148,7 +148,7 @@ module _ (rows : List EventRow) (table : every lawful rows ≡ true) where
     unfolding call_number commanded kept_number
     number_read = go (call_of r)
       where
-        go : (p : ReadCall) → performed_number rows page p ≡ kept_number rows (performed rows m p) page
+        go : (p : Parsed) → performed_number rows page p ≡ kept_number rows (performed rows m p) page
         go (Ok c) = ap (λ (o : Outcome). number_or o.answer (kept_number rows (applied rows o.meter c) page)) k.reads
         go (Err NoKind) = refl
 
@@ -156,7 +156,7 @@ module _ (rows : List EventRow) (table : every lawful rows ≡ true) where
     unfolding call_page commanded kept_page
     page_read = go (call_of r)
       where
-        go : (p : ReadCall) → performed_page rows page p ≡ kept_page rows (performed rows m p) page
+        go : (p : Parsed) → performed_page rows page p ≡ kept_page rows (performed rows m p) page
         go (Ok c) = ap (λ (o : Outcome). if_accepted o.answer (kept_page rows (applied rows o.meter c) page) page) k.reads
         go (Err NoKind) = refl
 
@@ -214,7 +214,7 @@ module _ (rows : List EventRow) (table : every lawful rows ≡ true) where
   range_behind [] c i k = (k, tt)
   range_behind (d ∷ calls) c i k = (i.0, range_behind calls c i.1 k)
 
-  first_range : (p : ReadCall) (cs : List Call) → AllInRange (with_call p cs) → AllInRange (with_call p [])
+  first_range : (p : Parsed) (cs : List Call) → AllInRange (with_call p cs) → AllInRange (with_call p [])
   first_range (Ok c) cs i = (i.0, tt)
   first_range (Err NoKind) cs i = tt
 
@@ -238,7 +238,7 @@ module _ (rows : List EventRow) (table : every lawful rows ≡ true) where
         ap (λ (page : List ℕ). call_pages rows page rs) (page_on (from_record calls k) r (first_range (call_of r) (calls_in rs) i))
         ∙ go (call_of r) i (pages_from rs)
       where
-        go : (p : ReadCall) → AllInRange (with_call p (calls_in rs))
+        go : (p : Parsed) → AllInRange (with_call p (calls_in rs))
             → ((calls : List Call) → AllInRange (calls_in rs) → AllInRange calls
             → call_pages rows (page_of (reached calls)) rs ≡ page_of (meter_after rows (reached calls) rs))
             → call_pages rows (page_of (performed rows (reached calls) p).meter) rs ≡ page_of (record_after rows (reached calls) (with_call p (calls_in rs)))
@@ -274,7 +274,7 @@ module _ (rows : List EventRow) (table : every lawful rows ≡ true) where
       none c Accepted e z = absurd (z refl)
       none c (Refused n) e z = ((meter.laws).1 rows table).refused_letter m c n e
 
-      go : (p : ReadCall) (a : Answer) → call_of r ≡ p → (read_of rows page).answer ≡ a → letter_byte (performed_letter rows page p) ≡ 0
+      go : (p : Parsed) (a : Answer) → call_of r ≡ p → (read_of rows page).answer ≡ a → letter_byte (performed_letter rows page p) ≡ 0
       go (Err NoKind) a names e = refl
       go (Ok c) (Refused n) names e = rw e
       go (Ok c) Accepted names e =

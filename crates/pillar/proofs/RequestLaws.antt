@@ -18,7 +18,7 @@ use Rattle.calls.specs.declared.Call.{Call}
 use Rattle.calls.specs.declared.Answer.{Answer}
 use Rattle.calls.specs.declared.Answer.TheVariants.{Accepted, Refused}
 use Rattle.calls.specs.declared.Command.{Command}
-use Rattle.calls.specs.Calls.{ReadCall}
+use Rattle.calls.specs.Calls.{Parsed as CallParsed}
 use Rattle.calls.specs.declared.CommandError.TheVariants.{NoKind}
 use Rattle.calls.specs.Calls.{answer_number, letter_byte, call_of, InRange, AllInRange}
 use Rattle.history.specs.OnePhase.{Fresh, account}
@@ -223,7 +223,7 @@ module _ (rows : List EventRow) (table : every lawful rows ≡ true) (f : Fresh)
   pages_from [] before i k = refl
   pages_from (command r ∷ xs) before i k = go (call_of r) refl i (pages_from xs)
     where
-      go : (p : ReadCall) → call_of r ≡ p → AllInputsInRange (parsed_input p (inputs_in xs))
+      go : (p : CallParsed) → call_of r ≡ p → AllInputsInRange (parsed_input p (inputs_in xs))
           → ((before : List Call) → AllInputsInRange (inputs_in xs) → AllInRange before
           → sent_pages rows (page_of (after before)) xs ≡ page_of (after (calls_behind rows f before (inputs_in xs))))
           → sent_pages rows (call_page rows (page_of (after before)) r) xs ≡ page_of (after (calls_behind rows f before (parsed_input p (inputs_in xs))))

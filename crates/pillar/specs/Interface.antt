@@ -6,7 +6,7 @@ use Rattle.calls.specs.declared.Call.{Call}
 use Rattle.calls.specs.declared.Letter.{Letter}
 use Rattle.calls.specs.declared.Letter.TheVariants.{None}
 use Rattle.calls.specs.declared.Command.{Command}
-use Rattle.calls.specs.Calls.{ReadCall}
+use Rattle.calls.specs.Calls.{Parsed}
 use Rattle.calls.specs.declared.CommandError.TheVariants.{NoKind}
 use Rattle.std.specs.Prelude.{Ok, Err}
 use Rattle.calls.specs.Calls.{answer_number, letter_byte, call_of}
@@ -39,17 +39,17 @@ outcome_on rows page c = applied rows (read_of rows page).meter c
 
 -- 'kind | 13 | ..; the command's reading fails before the record is touched', and document 02, A3: 'Refusal 13 now means not 1–17': before
 -- 'reader | 9 | ..', 10, 11; then the call's own
-abbrev pub performed_number : List EventRow → List ℕ → ReadCall → ℕ
+abbrev pub performed_number : List EventRow → List ℕ → Parsed → ℕ
 performed_number rows page (Ok c) = number_or (read_of rows page).answer (kept_number rows (outcome_on rows page c) page)
 performed_number rows page (Err NoKind) = 13
 
 -- the bytes afterwards: the page of the record that the call handed back, or as they were on a refusal
-abbrev pub performed_page : List EventRow → List ℕ → ReadCall → List ℕ
+abbrev pub performed_page : List EventRow → List ℕ → Parsed → List ℕ
 performed_page rows page (Ok c) = if_accepted (read_of rows page).answer (kept_page rows (outcome_on rows page c) page) page
 performed_page rows page (Err NoKind) = page
 
 -- document 02, A2: the letter of the move that the call made; '.. none, and so does a call that is refused ..', by the reader too
-abbrev pub performed_letter : List EventRow → List ℕ → ReadCall → Letter
+abbrev pub performed_letter : List EventRow → List ℕ → Parsed → Letter
 performed_letter rows page (Ok c) = if_accepted (read_of rows page).answer (outcome_on rows page c).letter None
 performed_letter rows page (Err NoKind) = None
 

@@ -8,7 +8,7 @@ use Rattle.calls.specs.declared.Call.{Call}
 use Rattle.calls.specs.declared.Letter.{Letter}
 use Rattle.calls.specs.declared.Letter.TheVariants.{None}
 use Rattle.calls.specs.declared.Command.{Command}
-use Rattle.calls.specs.Calls.{ReadCall}
+use Rattle.calls.specs.Calls.{Parsed}
 use Rattle.calls.specs.declared.CommandError.TheVariants.{NoKind}
 use Rattle.std.specs.Prelude.{Ok, Err}
 use Rattle.calls.specs.Calls.{call_of, letter_byte}
@@ -41,7 +41,7 @@ sent_pages rows page [] = page
 sent_pages rows page (x ∷ xs) = sent_pages rows (page_after_sent rows page x) xs
 
 -- as inputs of a record: a kind that is not 1–17 is none
-abbrev pub parsed_input : ReadCall → List Input → List Input
+abbrev pub parsed_input : Parsed → List Input → List Input
 parsed_input (Ok c) is = call c ∷ is
 parsed_input (Err NoKind) is = is
 

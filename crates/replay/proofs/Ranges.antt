@@ -10,7 +10,7 @@ use borrow.Author.Tests.{ltb-true, ltb-false, le-leb}
 use Rattle.codec.specs.Format.{AllHold}
 use Rattle.calls.specs.declared.Call.{Call}
 use Rattle.calls.specs.declared.Command.{Command}
-use Rattle.calls.specs.Calls.{ReadCall}
+use Rattle.calls.specs.Calls.{Parsed}
 use Rattle.calls.specs.declared.CommandError.TheVariants.{NoKind}
 use Rattle.std.specs.Prelude.{Ok, Err}
 use Rattle.calls.specs.Calls.{signed_of, call_of, Word, Signed, InRange, AllInRange}
@@ -30,7 +30,7 @@ signed_range n h = go (ltb n 2147483648) refl
     go false e = (le-leb (4294967295 - n) 2147483647 (omega (arith, ltb-false n 2147483648 e)), refl)
 
 -- what is named, if anything, is in range
-abbrev pub ParsedInRange : ReadCall → Type 0
+abbrev pub ParsedInRange : Parsed → Type 0
 ParsedInRange (Ok c) = InRange c
 ParsedInRange (Err NoKind) = Unit
 
@@ -75,7 +75,7 @@ module _ (r : Command) (h : record_format.Holds r) where
   pub parsed_range : ParsedInRange (call_of r)
   parsed_range = let n = h.0.1 in call_range r n.0 n.1.0 n.1.1.0 n.1.1.1.0 n.1.1.1.1
 
-with_call_lem : (p : ReadCall) (cs : List Call) → ParsedInRange p → AllInRange cs → AllInRange (with_call p cs)
+with_call_lem : (p : Parsed) (cs : List Call) → ParsedInRange p → AllInRange cs → AllInRange (with_call p cs)
 with_call_lem (Ok c) cs i is = (i, is)
 with_call_lem (Err NoKind) cs i is = is
 

@@ -14,7 +14,7 @@ use Rattle.logs.specs.Layout.{Sized}
 use Rattle.calls.specs.declared.Answer.{Answer}
 use Rattle.calls.specs.declared.Answer.TheVariants as answer
 use Rattle.calls.specs.declared.Command.{Command}
-use Rattle.calls.specs.Calls.{ReadCall}
+use Rattle.calls.specs.Calls.{Parsed}
 use Rattle.calls.specs.declared.CommandError.TheVariants.{NoKind}
 use Rattle.std.specs.Prelude.{Ok, Err}
 use Rattle.calls.specs.declared.Call.{Call}
@@ -58,12 +58,12 @@ module _ (rows : List EventRow) where
   unfolding record_after calls_in commanded
   meter_next m r rs = go (call_of r)
     where
-      go : (p : ReadCall) → record_after rows m (with_call p (calls_in rs)) ≡ record_after rows (performed rows m p).meter (calls_in rs)
+      go : (p : Parsed) → record_after rows m (with_call p (calls_in rs)) ≡ record_after rows (performed rows m p).meter (calls_in rs)
       go (Ok c) = refl
       go (Err NoKind) = refl
 
   -- the loop keeps its record in parts: the arrays keep their types' lengths
-  performed_sized : (m : Meter) (p : ReadCall) → Sized m.logs → Sized (performed rows m p).meter.logs
+  performed_sized : (m : Meter) (p : Parsed) → Sized m.logs → Sized (performed rows m p).meter.logs
   performed_sized m (Ok c) z = applied_sized rows m c z
   performed_sized m (Err NoKind) z = z
 
@@ -77,7 +77,7 @@ module _ (rows : List EventRow) where
   unfolding record_after calls_in
   next_sound table m r h z e = ap (sound_meter rows) (sym (meter_next m r [])) ∙ go (call_of r) (parsed_range r h)
     where
-      go : (p : ReadCall) → ParsedInRange p → sound_meter rows (record_after rows m (with_call p [])) ≡ true
+      go : (p : Parsed) → ParsedInRange p → sound_meter rows (record_after rows m (with_call p [])) ≡ true
       go (Ok c) i = (laws.1 rows table).kept_sound m c z i e
       go (Err NoKind) i = e
 

@@ -6,7 +6,7 @@ use Rattle.calls.specs.declared.Call.{Call}
 use Rattle.calls.specs.declared.Answer.{Answer}
 use Rattle.calls.specs.declared.Answer.TheVariants as answer
 use Rattle.calls.specs.declared.Command.{Command}
-use Rattle.calls.specs.Calls.{ReadCall}
+use Rattle.calls.specs.Calls.{Parsed}
 use Rattle.calls.specs.declared.CommandError.TheVariants.{NoKind}
 use Rattle.std.specs.Prelude.{Result, Ok, Err}
 use Rattle.calls.specs.Calls.{signed_of, call_of}
@@ -45,7 +45,7 @@ settings_in r = settings_of r.n1 (signed_of r.n2) r.n3 r.n4 r.n5
 
 -- 'kind | 13 | ..; the command's reading fails before the record is touched', and document 02, A3: 'Refusal 13 now means not 1–17': such a record adds no
 -- call
-abbrev pub with_call : ReadCall → List Call → List Call
+abbrev pub with_call : Parsed → List Call → List Call
 with_call (Ok c) cs = c ∷ cs
 with_call (Err NoKind) cs = cs
 

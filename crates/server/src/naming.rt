@@ -17,7 +17,8 @@ pub(crate) fn number_of(value: Data) -> u32
     }
 }
 
-// The call of an operation with a number. Of the limiter's settings the other two are kept.
+// The call of an operation with a number. Of the limiter's settings the other two are kept. Enum and match,
+// and no function in each row: a constant table of functions would hand them out.
 pub(crate) fn named_by(limiter: Limiter, operation: Operation, n: u32) -> Call
     ensures { result ≡ named_by limiter.threshold limiter.over limiter.under operation n }
 {

@@ -21,7 +21,7 @@ fn output_state(state: u8) -> u8
     u8::from(state == 1)
 }
 
-// The value of an attribute.
+// The value of an attribute. Enum and match, and no function in each row, as for an operation.
 pub(crate) fn value_of(scalars: Scalars, value: Value) -> Data
     ensures { result ≡ value_of scalars value }
 {

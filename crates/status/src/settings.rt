@@ -20,6 +20,7 @@ impl Status {
         self.logged_two(1, before, 4, 5, Letter::None)
     }
 
+    // A function for each register, as the alarms are counted.
     pub fn set_alarm_filter(mut self, filter: u32) -> StatusStep
         ensures { result ≡ status_step_for (filter_result (status_values self) alarms filter) }
     {

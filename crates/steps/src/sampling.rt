@@ -12,8 +12,8 @@ use calls::Letter;
 use control::{Decision, Request};
 use limiter::Limiter;
 
-// A new run if another threshold is in force. Told so, and not by the thresholds: the same answer also
-// says whether a line is left.
+// A new run if another threshold is in force. It takes that answer and not the two thresholds, since the
+// same answer also says whether a line is left.
 pub(crate) fn restarted(limiter: Limiter, same: bool) -> Limiter
     ensures { result ≡ restarted_by same limiter }
 {
