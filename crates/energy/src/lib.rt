@@ -8,6 +8,7 @@ ghost use Rattle.energy.specs.Refusals.{refusal_number};
 ghost use Rattle.energy.specs.Energy.{energy_of};
 ghost use Rattle.energy.specs.Days.{measured};
 ghost use Rattle.energy.specs.Laws.{Laws};
+ghost use Rattle.energy.specs.NearMisses.{NearMisses};
 
 mod joining;
 
@@ -31,11 +32,11 @@ pub struct Day {
 #[derive(Clone, Copy, Debug, PartialEq, Eq)]
 pub enum EnergyRefusal {
     // More than 86,400.
-    TooManySamples,
+    TooManySamples = 25,
     // A remainder of 3,600 watt-seconds or more.
-    UnreducedRemainder,
+    UnreducedRemainder = 26,
     // Whole watt-hours above 2^53.
-    SumTooLarge,
+    SumTooLarge = 27,
 }
 
 impl EnergyRefusal {
@@ -43,11 +44,7 @@ impl EnergyRefusal {
     pub fn number(self) -> u8
         ensures { result ≡ refusal_number self }
     {
-        match self {
-            EnergyRefusal::TooManySamples => 25,
-            EnergyRefusal::UnreducedRemainder => 26,
-            EnergyRefusal::SumTooLarge => 27,
-        }
+        self as u8
     }
 }
 
@@ -77,6 +74,7 @@ fn below_highest(power: i32) -> u32
 pub fn measure(samples: &[i32]) -> Result<Day, EnergyRefusal>
     ensures value { result ≡ measured samples.now }
     ensures laws { Laws }
+    ensures near_misses { NearMisses }
 {
     if MOST_SAMPLES < samples.len() {
         return Err(EnergyRefusal::TooManySamples);

@@ -25,11 +25,11 @@ pub struct Charge {
 #[derive(Clone, Copy, Debug, PartialEq, Eq)]
 pub enum TariffRefusal {
     // A price above 1,000,000.
-    PriceTooHigh,
+    PriceTooHigh = 28,
     // An incoming rest of 3,600,000 or more.
-    RestTooLarge,
+    RestTooLarge = 29,
     // An import of whole watt-hours above 2^31, or with a remainder of 3,600 or more.
-    ImportOutOfRange,
+    ImportOutOfRange = 30,
 }
 
 impl TariffRefusal {
@@ -37,11 +37,7 @@ impl TariffRefusal {
     pub fn number(self) -> u8
         ensures { result ≡ refusal_number self }
     {
-        match self {
-            TariffRefusal::PriceTooHigh => 28,
-            TariffRefusal::RestTooLarge => 29,
-            TariffRefusal::ImportOutOfRange => 30,
-        }
+        self as u8
     }
 }
 
