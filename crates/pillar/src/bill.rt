@@ -19,7 +19,7 @@ fn imports_in(imports: &[u64; 8]) -> [Energy; 4]
     ]
 }
 
-// Leaves the rest for the next bill and the cents of one that is not refused.
+// Leaves the rest for the next bill and the cents of one that is not refused, and answers as C is answered.
 fn settle(bill: Result<Charge, TariffRefusal>, rest: &mut u32, cents: &mut u64) -> u32
     ensures { Billing bill rest.old cents.old result rest.new cents.new }
 {

@@ -27,7 +27,7 @@ fn day_in(day: &[u64; 4]) -> Day
     }
 }
 
-// Stores a day that is not refused.
+// Stores a day that is not refused, and answers as C is answered.
 fn store(measured: Result<Day, EnergyRefusal>, day: &mut [u64; 4]) -> u32
     ensures { (result ≡ measured_number measured) × (day.new ≡ stored_day measured day.old) }
 {

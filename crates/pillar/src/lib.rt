@@ -1,8 +1,8 @@
 // The C interface of the core, on numbers and bytes. A meter's state is its page, as a device keeps it:
 // nothing is kept between calls. No function asks anything of its arguments; each answers 0 or the number
-// of a refusal, and a refusal leaves every byte of the page. An event table goes as bytes with each
-// call on a page: those of a good table, or any others, as none at all, for the built-in one.
-// `include/pillar.h` declares them.
+// of a refusal, as C is answered and as the functions behind them hand it on, and a refusal leaves every
+// byte of the page. An event table goes as bytes with each call on a page: those of a good table, or any
+// others, as none at all, for the built-in one. `include/pillar.h` declares them.
 // The three-phase meter has functions of its own, on a page of its own.
 // Apart from the meters stand the functions of a column, of the energy of a day and of a bill.
 #![tactic(auto)]
