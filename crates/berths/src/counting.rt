@@ -4,7 +4,7 @@ ghost use Rattle.calls.specs.declared.Answer.TheVariants.{Refused};
 ghost use Rattle.berths.specs.Allotments.{is_faulty};
 ghost use Rattle.berths.specs.Counting.{is_wrong_count, at_limit, with_berth, left_over, refusal_number};
 
-use crate::{Berth, Column, ColumnRefusal};
+use crate::{Berth, Column, ColumnRefusal, shares};
 use calls::Answer;
 
 // No berth, or more than sixteen, which are refused whatever they hold.
@@ -12,6 +12,13 @@ pub(crate) fn is_wrong_count(n: usize) -> bool
     ensures { result ≡ is_wrong_count n }
 {
     (n < 1) | (16 < n)
+}
+
+// A negative guarantee or cap, or a guarantee above its cap.
+fn is_faulty(guarantee: i32, cap: i32) -> bool
+    ensures { result ≡ is_faulty guarantee cap }
+{
+    (guarantee < 0) | (cap < 0) | (cap < guarantee)
 }
 
 impl Column {
@@ -35,10 +42,12 @@ impl Column {
     {
         let guaranteed = base::positive_part(berth.guarantee);
         Column {
-            faulty: self.faulty | berth.is_faulty(),
+            faulty: self.faulty | is_faulty(berth.guarantee, berth.cap),
             short: self.short | (self.room < guaranteed),
             room: self.room.saturating_sub(guaranteed),
-            left: self.left.saturating_sub(berth.first_part()),
+            left: self
+                .left
+                .saturating_sub(shares::first_part(berth.guarantee, berth.demand)),
         }
     }
 
@@ -56,23 +65,12 @@ impl Column {
     }
 }
 
-impl Berth {
-    fn is_faulty(self) -> bool
-        ensures { result ≡ is_faulty self.guarantee self.cap }
-    {
-        (self.guarantee < 0) | (self.cap < 0) | (self.cap < self.guarantee)
-    }
-}
-
 impl ColumnRefusal {
+    // The refusal's number in document 02.
     fn number(self) -> u8
         ensures { result ≡ refusal_number self }
     {
-        match self {
-            ColumnRefusal::BerthCount => 22,
-            ColumnRefusal::BerthPower => 23,
-            ColumnRefusal::GuaranteeSum => 24,
-        }
+        self as u8
     }
 }
 

@@ -44,11 +44,11 @@ pub(crate) struct Column {
 #[derive(Clone, Copy)]
 pub(crate) enum ColumnRefusal {
     // No berth, or more than sixteen.
-    BerthCount,
+    BerthCount = 22,
     // The limit, a guarantee or a cap is negative, or a guarantee is above its cap.
-    BerthPower,
+    BerthPower = 23,
     // The guarantees sum above the limit.
-    GuaranteeSum,
+    GuaranteeSum = 24,
 }
 
 // What a berth gets, and what is left for those behind it.
