@@ -1,4 +1,3 @@
-pub mod Stores
 pub mod Lists
 pub mod Texts
 pub mod Chains

@@ -1,5 +1,5 @@
 -- A block's lines put one by one: what is in the text, and what the records that are left will add to it.
-use Rattle.base.proofs.Prelude.{◌≡◌, refl, sym, ap, ◌∙◌, List, [], ◌∷◌, ◌++◌, ℕ, ◌+◌, ◌*◌, ◌≤◌, arith, length, length-append, sets, length-sets}
+use Rattle.base.proofs.Prelude.{◌≡◌, sym, ap, ◌∙◌, List, [], ◌∷◌, ◌++◌, ℕ, ◌+◌, ◌*◌, ◌≤◌, arith, length, length-append, sets, length-sets}
 use Rattle.events.specs.Table.{built_in}
 use Rattle.codec.proofs.Stores.{sets_then}
 use Rattle.calls.specs.declared.Command.{Command}
@@ -19,11 +19,6 @@ module _ (text₀ : List ℕ) (position : ℕ) (m₀ : Meter) (all : List Comman
     pub meter : meter_after built_in m rest ≡ meter_after built_in m₀ all
     pub count : len + length (lines_from (position + i) m rest) ≡ length (lines_from position m₀ all)
     pub bytes : sets text len (lines_from (position + i) m rest) ≡ sets text₀ 0 (lines_from position m₀ all)
-
-  pub none_listed : Listing text₀ m₀ 0 0 all
-  none_listed =
-      let first : position + 0 ≡ position = omega arith in
-      record { size = refl; room = omega arith; meter = refl; count = rw first (omega arith); bytes = rw first }
 
   pub one_listed : {text : List ℕ} {m : Meter} {len i : ℕ} {r : Command} {rest : List Command} → Listing text m len i (r ∷ rest)
       → {o : Outcome} {line : ListingLine} {text' : List ℕ} {len' : ℕ} → o ≡ next_of built_in m r → line ≡ line_of (position + i) o

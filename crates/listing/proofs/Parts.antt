@@ -9,7 +9,7 @@ use Rattle.meter.specs.declared.Meter.{Meter}
 use Rattle.meter.specs.Machine.{record_after}
 use Rattle.replay.specs.Input.{record_format}
 use Rattle.replay.specs.Replay.{first_in, later_in, records_from, calls_in, next_of, meter_after}
-use Rattle.replay.proofs.{Records.record_numbers, Runs.meter_next}
+use Rattle.replay.proofs.{Records.record_numbers, Runs.{meter_next, records_next, records_end}}
 use Rattle.listing.specs.Lines.{lines_from}
 
 -- ---- values that are read from the first part, and from the second
@@ -81,6 +81,13 @@ module _ (p s : List ℕ) where
 
     pub records_count : length (records_from 0 p) ≡ k
     records_count = length_decs record_format (length p / 21 - 0) p 0 ∙ omega arith
+
+-- the record at the start, and those behind it
+pub record_ahead : (p s : List ℕ) → length p ≡ 21 → records_from 0 (p ++ s) ≡ record_format.dec p 0 ∷ records_from 0 s
+record_ahead p s h =
+    let first : records_from 0 p ≡ record_format.dec p 0 ∷ [] =
+    records_next p 0 (omega arith) ∙ ap (λ (rs : List Command). record_format.dec p 0 ∷ rs) (records_end p 1 (omega arith)) in
+    records_cat p s 1 (omega arith) ∙ ap (λ (rs : List Command). rs ++ records_from 0 s) first
 
 -- ---- their lines
 

@@ -30,6 +30,7 @@ const TEXT_LEN: usize = BLOCK_RECORDS * LINE_LEN + 6;
 const LAST_POSITION: u64 = u64::MAX - 195;
 
 // How far a listing is: the meter, the position of the next record, and whether a block is to be read.
+// No Option: how far a listing came is told where it has ended, too.
 #[derive(Clone, Copy)]
 pub struct Progress {
     pub meter: Meter,
@@ -39,6 +40,7 @@ pub struct Progress {
 
 // How far a listing came, whether the input could be read so far, and whether all of the text was
 // written.
+// No Result: a read and a write can both fail, and what was printed before counts in each case.
 #[derive(Clone, Copy)]
 pub struct ListingEnd {
     pub progress: Progress,

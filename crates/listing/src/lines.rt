@@ -32,14 +32,9 @@ fn put_bytes(text: &mut [u8], len: usize, bytes: &[u8]) -> usize
     requires { len + length bytes.now ≤ length text.old }
     ensures { PutBehind text.old len bytes.now result text.new }
 {
-    let mut from = 0;
-    let mut to = len;
-    while from < bytes.len() {
-        text[to] = bytes[from];
-        from += 1;
-        to += 1;
-    }
-    to
+    let end = len + bytes.len();
+    text[len..end].copy_from_slice(bytes);
+    end
 }
 
 // Puts a line behind the first `len` bytes of a text, and answers how long the text then is.
@@ -48,14 +43,8 @@ fn put_line(text: &mut [u8], len: usize, line: ListingLine) -> usize
     ensures put_behind { PutBehind text.old len (shown line) result text.new }
     ensures upper_bound { result ≤ len + 40 }
 {
-    let mut from = line.start;
-    let mut to = len;
-    while from < LINE_LEN {
-        text[to] = line.bytes[from];
-        from += 1;
-        to += 1;
-    }
-    to
+    // Behind the line's end there are no bytes to show.
+    put_bytes(text, len, &line.bytes[line.start.min(LINE_LEN)..])
 }
 
 // Puts `short` behind the first `len` bytes of a text, if the last record of so many bytes is cut.
@@ -80,13 +69,11 @@ fn put_lines(text: &mut [u8], block: &[u8], position: u64, before: Meter) -> Put
     let table = tables::built_in();
     let mut meter = before;
     let mut len = 0;
-    let mut i = 0;
-    while i < block.len() / RECORD_LEN {
-        let record = replay::record_at(block, i * RECORD_LEN);
+    for (i, bytes) in block.chunks_exact(RECORD_LEN).enumerate() {
+        let record = replay::record_at(bytes, 0);
         let outcome = replay::next(&table, meter, record);
         len = put_line(text, len, replay::line_of(position + i as u64, outcome));
         meter = outcome.meter;
-        i += 1;
     }
     PutLines { meter, len }
 }

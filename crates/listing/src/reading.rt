@@ -4,6 +4,7 @@ ghost use Rattle.std.specs.Counts.{IsPrefixLen};
 use std::io;
 
 // How many bytes were read, and whether reading more of them failed.
+// No Result: what was read before a failure counts too, so that both of its cases would hold the count.
 #[derive(Clone, Copy)]
 pub struct Read {
     pub count: usize,
