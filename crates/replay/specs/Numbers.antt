@@ -34,7 +34,7 @@ pub record NumbersTell (answer_of : List ℕ → List ℕ → Replayed) : Type 0
   pub zero_written : (s out : List ℕ) → (replay_number (answer_of s out) ≡ 0) ↔ (answer_of s out ≡ Ok tt)
   pub refusal_number : (s out : List ℕ) (n : ℕ) → answer_of s out ≡ Err (Refused n) → replay_number (answer_of s out) ≡ n
   -- 'Empty input', `bad` and `short`
-  pub others : map error_number (Empty ∷ Bad ∷ Short ∷ []) ≡ 100 ∷ 101 ∷ 102 ∷ []
+  pub others : map replay_number (Err Empty ∷ Err Bad ∷ Err Short ∷ []) ≡ 100 ∷ 101 ∷ 102 ∷ []
 
 -- of a list of the one-phase meter
 abbrev pub ReplayNumbers : Type 0

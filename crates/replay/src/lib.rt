@@ -35,7 +35,7 @@ pub struct ListingLine {
 }
 
 // Why the page of an input's history is not written.
-#[derive(Clone, Copy)]
+#[derive(Clone, Copy, Debug, PartialEq, Eq)]
 pub enum ReplayError {
     Empty,
     // The first record is not of kind 0.
