@@ -53,7 +53,7 @@ extern "C" {
  */
 #define PILLAR_VERSION_MAJOR 5
 #define PILLAR_VERSION_MINOR 7
-#define PILLAR_VERSION_PATCH 0
+#define PILLAR_VERSION_PATCH 1
 #define PILLAR_VERSION \
     (PILLAR_VERSION_MAJOR * 10000 + PILLAR_VERSION_MINOR * 100 + PILLAR_VERSION_PATCH)
 
@@ -64,8 +64,8 @@ extern "C" {
  * and memset, and adds up the frames of the machine code. An inline function of this
  * header takes its own frame besides.
  */
-#define PILLAR_STACK_REQUEST 10240 /* pillar_request */
-#define PILLAR_STACK 4608         /* every other function of the archive */
+#define PILLAR_STACK_REQUEST 9216 /* pillar_request */
+#define PILLAR_STACK 5120         /* every other function of the archive */
 
 /* ---- The page ------------------------------------------------------------
  *
