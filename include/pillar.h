@@ -53,7 +53,7 @@ extern "C" {
  */
 #define PILLAR_VERSION_MAJOR 5
 #define PILLAR_VERSION_MINOR 7
-#define PILLAR_VERSION_PATCH 1
+#define PILLAR_VERSION_PATCH 2
 #define PILLAR_VERSION \
     (PILLAR_VERSION_MAJOR * 10000 + PILLAR_VERSION_MINOR * 100 + PILLAR_VERSION_PATCH)
 
@@ -65,7 +65,7 @@ extern "C" {
  * header takes its own frame besides.
  */
 #define PILLAR_STACK_REQUEST 9216 /* pillar_request */
-#define PILLAR_STACK 5120         /* every other function of the archive */
+#define PILLAR_STACK 4608         /* every other function of the archive */
 
 /* ---- The page ------------------------------------------------------------
  *

@@ -26,10 +26,12 @@ pub fn replay_three_phase(
     ensures laws { Laws }
     ensures examples { Examples }
 {
-    if records.len() == 0 {
-        return Err(ReplayError::Empty);
-    }
+    // One test on the way of a whole record: with one more the compiler does not inline the run, which
+    // then has a frame of its own (PILLAR_STACK, include/pillar.h).
     if records.len() < THREE_PHASE_RECORD_LEN {
+        if records.len() == 0 {
+            return Err(ReplayError::Empty);
+        }
         return Err(ReplayError::Short);
     }
     let first = input::whole_record_at(records, 0);

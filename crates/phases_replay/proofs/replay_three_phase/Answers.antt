@@ -1,4 +1,4 @@
-use Rattle.base.proofs.Prelude.{◌≡◌, sym, ap, ◌∙◌, arith, eq-eqb, ne_eqb, lt-ltb, le-ltb}
+use Rattle.base.proofs.Prelude.{◌≡◌, sym, ap, ◌∙◌, false, ℕ, ◌≤◌, eqb, arith, eq-eqb, ne_eqb, lt-ltb, le-ltb}
 use Rattle.tables.specs.Index.{table_in}
 use Rattle.tables.proofs.Index.{table_lawful}
 use Rattle.phases.specs.declared.ThreePhaseCommand.{ThreePhaseCommand}
@@ -21,12 +21,15 @@ use Rattle.phases_replay.proofs.replay_three_phase.Goals.{After-whole_record_at-
 claims : Laws × Examples
 claims = (laws, examples)
 
+some_bytes : (n : ℕ) → 33 ≤ n → eqb n 0 ≡ false
+some_bytes n h = ne_eqb n 0 (λ e. omega (arith, e))
+
 kind_read : (c : After-whole_record_at-first) → c.whole_record_at-first.result.kind ≡ (three_phase_first_in c.args.records.now).kind
 kind_read c = ap (λ (r : ThreePhaseCommand). r.kind) c.whole_record_at-first.ensures
 
 begins : (c : After-start-fresh) → Begun c.args.records.now c.args.page.now c.start-fresh.result
 begins c =
-    begun _ _ _ (ne_eqb _ _ c.if-records-eq0.false) (le-ltb _ _ c.if-records-lt-THREE_PHASE_RECORD_LEN.false)
+    begun _ _ _ (some_bytes _ c.if-records-lt-THREE_PHASE_RECORD_LEN.false) (le-ltb _ _ c.if-records-lt-THREE_PHASE_RECORD_LEN.false)
     (eq-eqb _ _ (sym (ap (λ (r : ThreePhaseCommand). r.kind) c.whole_record_at-first.ensures) ∙ c.if-first-ne0.false))
     (c.start-fresh.ensures ∙ ap three_phase_start_of c.whole_record_at-first.ensures)
 
@@ -34,7 +37,7 @@ page_written : (c : After-write_three_phase_page)
     → (unless_refused c.write_three_phase_page.result (Ok tt) ≡ three_phase_replay_answer c.args.records.now c.args.page.now)
     × (c.write_three_phase_page.new.out ≡ three_phase_replayed (table_in c.args.table.now) c.args.records.now c.args.page.now)
 page_written c =
-    ended (table_in c.args.table.now) (table_lawful c.args.table.now) (begun _ _ _ (ne_eqb _ _ c.if-records-eq0.false) (le-ltb _ _ c.if-records-lt-THREE_PHASE_RECORD_LEN.false)
+    ended (table_in c.args.table.now) (table_lawful c.args.table.now) (begun _ _ _ (some_bytes _ c.if-records-lt-THREE_PHASE_RECORD_LEN.false) (le-ltb _ _ c.if-records-lt-THREE_PHASE_RECORD_LEN.false)
     (eq-eqb _ _ (sym (ap (λ (r : ThreePhaseCommand). r.kind) c.whole_record_at-first.ensures) ∙ c.if-first-ne0.false))
     (c.start-fresh.ensures ∙ ap three_phase_start_of c.whole_record_at-first.ensures))
     (λ i. omega (arith, c.type_inv.records i))
@@ -64,7 +67,7 @@ unfolding three_phase_replay_answer
 returns-then-first-ne0 c =
     let other = rw (kind_read (goal.at.returns-then-first-ne0 c).After-whole_record_at-first) at (ne_eqb _ _ c.if-first-ne0.true) in
     record {
-      value = with_bytes _ _ _ (Err Bad) (rw (ne_eqb _ _ c.if-records-eq0.false, le-ltb _ _ c.if-records-lt-THREE_PHASE_RECORD_LEN.false, other));
+      value = with_bytes _ _ _ (Err Bad) (rw (some_bytes _ c.if-records-lt-THREE_PHASE_RECORD_LEN.false, le-ltb _ _ c.if-records-lt-THREE_PHASE_RECORD_LEN.false, other));
       laws = claims.0;
       examples = claims.1;
     }

@@ -1,5 +1,8 @@
 use mathlib.Core.Path.{◌≡◌, ◌∙◌, ap, sym}
+use mathlib.Core.Bool.{false}
+use Prim.Native.Nat.{ℕ, ◌≤◌}
 use native.Mathlib.Omega.{arith}
+use lib.Dec.{eqb}
 use borrow.Author.Tests.{eq-eqb, ne_eqb, lt-ltb, le-ltb}
 use Rattle.tables.specs.Index.{table_in}
 use Rattle.tables.proofs.Index.{table_lawful}
@@ -29,12 +32,15 @@ use Rattle.replay.proofs.replay.Goals.{After-record_at-first, After-start-fresh,
 claims : Laws × (AccountLaws × (RemoteDisconnectHolds × ((WorkedExample × Histories) × Examples)))
 claims = (laws, (account.laws, (remote_disconnect_holds, ((worked_example, histories), examples))))
 
+some_bytes : (n : ℕ) → 21 ≤ n → eqb n 0 ≡ false
+some_bytes n h = ne_eqb n 0 (λ e. omega (arith, e))
+
 kind_read : (c : After-record_at-first) → c.record_at-first.result.kind ≡ (first_in c.args.records.now).kind
 kind_read c = ap (λ (r : Command). r.kind) c.record_at-first.ensures
 
 begins : (c : After-start-fresh) → Begun c.args.records.now c.args.page.now c.start-fresh.result
 begins c =
-    begun _ _ _ (ne_eqb _ _ c.if-records-eq0.false) (le-ltb _ _ c.if-records-lt-RECORD_LEN.false)
+    begun _ _ _ (some_bytes _ c.if-records-lt-RECORD_LEN.false) (le-ltb _ _ c.if-records-lt-RECORD_LEN.false)
     (eq-eqb _ _ (sym (ap (λ (r : Command). r.kind) c.record_at-first.ensures) ∙ c.if-first-ne0.false))
     (c.start-fresh.ensures ∙ ap start_of c.record_at-first.ensures)
 
@@ -42,7 +48,7 @@ page_written : (c : After-write_page)
     → (unless_refused c.write_page.result (Ok tt) ≡ replay_answer c.args.records.now c.args.page.now)
     × (c.write_page.new.out ≡ replayed (table_in c.args.table.now) c.args.records.now c.args.page.now)
 page_written c =
-    ended (table_in c.args.table.now) (table_lawful c.args.table.now) (begun _ _ _ (ne_eqb _ _ c.if-records-eq0.false) (le-ltb _ _ c.if-records-lt-RECORD_LEN.false)
+    ended (table_in c.args.table.now) (table_lawful c.args.table.now) (begun _ _ _ (some_bytes _ c.if-records-lt-RECORD_LEN.false) (le-ltb _ _ c.if-records-lt-RECORD_LEN.false)
     (eq-eqb _ _ (sym (ap (λ (r : Command). r.kind) c.record_at-first.ensures) ∙ c.if-first-ne0.false))
     (c.start-fresh.ensures ∙ ap start_of c.record_at-first.ensures)) (λ i. omega (arith, c.type_inv.records i))
     (accepts _ _ (sym c.accepted.ensures ∙ c.in_ok-accepted.was))
@@ -76,7 +82,7 @@ unfolding replay_answer
 returns-then-first-ne0 c =
     let other = rw (kind_read (goal.at.returns-then-first-ne0 c).After-record_at-first) at (ne_eqb _ _ c.if-first-ne0.true) in
     record {
-      value = with_bytes _ _ _ (Err Bad) (rw (ne_eqb _ _ c.if-records-eq0.false, le-ltb _ _ c.if-records-lt-RECORD_LEN.false, other));
+      value = with_bytes _ _ _ (Err Bad) (rw (some_bytes _ c.if-records-lt-RECORD_LEN.false, le-ltb _ _ c.if-records-lt-RECORD_LEN.false, other));
       laws = claims.0;
       account = claims.1.0;
       remote_disconnect = claims.1.1.0;
