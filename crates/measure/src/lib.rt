@@ -126,8 +126,7 @@ pub extern "C" fn measure_read(page: &mut [u8], rounds: u32, table: &[u16; 256])
     for round in 0..rounds {
         count_round(page, round);
         let read = reader::read_page(table, page);
-        let answer = read.answer;
-        accepted += u32::from(answer.number() == 0);
+        accepted += u32::from(read.answer.number() == 0);
     }
     accepted
 }
