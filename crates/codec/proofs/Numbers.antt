@@ -80,6 +80,10 @@ num_at_halves (suc w) k s at = rw (suc-add, num_at_halves w k s (suc at), pow-ad
 pub num_at_two : (s : List ℕ) (at : ℕ) → num_at 2 s at ≡ get_or s at 0 * 256 + get_or s (at + 1) 0
 num_at_two s at = num_at_halves 1 1 s at ∙ rw (num_at_byte s at, num_at_byte s (at + 1))
 
+pub num_at_four : (s : List ℕ) (at : ℕ)
+    → num_at 4 s at ≡ get_or s at 0 * 16777216 + get_or s (at + 1) 0 * 65536 + get_or s (at + 2) 0 * 256 + get_or s (at + 3) 0
+num_at_four s at = rw (num_at_halves 2 2 s at, num_at_two s at, num_at_two s (at + 2), add_assoc at 2 1) (omega arith)
+
 -- the higher digits of a number do not show in its k lower bytes
 be_lower : (k q t : ℕ) → be k (q * 256 ^ k + t) ≡ be k t
 unfolding be
@@ -93,10 +97,6 @@ be_higher zero k v = rw zero-add
 be_higher (suc w) k v = rw (suc-add, be_higher w k v, div-div-eq-div-mul, pow-add, mul_comm (256 ^ w) (256 ^ k))
 
 -- a number of w + k bytes is written as its w higher bytes and its k lower bytes
-pub num_at_four : (s : List ℕ) (at : ℕ)
-    → num_at 4 s at ≡ get_or s at 0 * 16777216 + get_or s (at + 1) 0 * 65536 + get_or s (at + 2) 0 * 256 + get_or s (at + 3) 0
-num_at_four s at = rw (num_at_halves 2 2 s at, num_at_two s at, num_at_two s (at + 2), add_assoc at 2 1) (omega arith)
-
 pub be_halves : (w k v : ℕ) → be (w + k) v ≡ be w (v / 256 ^ k) ++ be k (v % 256 ^ k)
 be_halves w k v =
     let low : be k v ≡ be k (v % 256 ^ k) = rw div-add-mod' at (be_lower k (v / 256 ^ k) (v % 256 ^ k)) in
