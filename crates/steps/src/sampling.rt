@@ -5,7 +5,7 @@ ghost use Rattle.std.specs.Prelude.{◌≡◌, ◌||◌, cond, [], ◌∷◌, le
 ghost use Rattle.limiter.specs.Limiter.{watching};
 ghost use Rattle.machine.specs.Machine.{line_now, moving, decided, restarted_by, after_sample, sample_result};
 ghost use Rattle.steps.specs.Scalars.{values_of};
-ghost use Rattle.steps.specs.Step.{quiet_sample, step_for, led_by, ended_by};
+ghost use Rattle.steps.specs.Step.{after_normal, quiet_sample, step_for, led_by, ended_by};
 
 use crate::{LINES, Scalars, Step};
 use calls::Letter;
@@ -93,6 +93,19 @@ impl Scalars {
         self.fired(66, Request::LocalReconnect)
     }
 
+    // The scalars after a sample that is judged by the normal threshold, whether it fires or not: clock
+    // and limiter have moved, and the switch has not.
+    pub fn normal_sample(self, power: i32) -> Scalars
+        ensures { result ≡ after_normal self power }
+    {
+        let watched = self.limiter.sample(self.limiter.threshold, power);
+        Scalars {
+            limiter: watched.limiter,
+            clock: base::next_held(self.clock),
+            ..self
+        }
+    }
+
     // Nearly every sample is quiet: it finds no emergency profile and does not fire. Then it moves the
     // clock and the run alone, and leaves no line: these are the scalars after it.
     pub fn quiet_sample(self, power: i32) -> Option<Scalars>
@@ -102,11 +115,7 @@ impl Scalars {
         if (self.emergency.state != 0) | watched.fired {
             return None;
         }
-        Some(Scalars {
-            limiter: watched.limiter,
-            clock: base::next_held(self.clock),
-            ..self
-        })
+        Some(self.normal_sample(power))
     }
 
     // The clock goes on before anything else: a profile starts by it, and a line bears it.
